@@ -1,17 +1,17 @@
-// What the system answers of a name: each answer says whether the system answered at all.
+// The answers of the system about names and locks.
 
-/// Whether something is so.
+/// The answer to a question of yes or no.
 #[derive(Clone, Copy, Debug, PartialEq, Eq)]
 pub enum Answer {
-    /// It is.
+    /// Yes, it is so.
     Yes,
-    /// It is not.
+    /// No, it is not so.
     No,
     /// The system did not say: the call failed.
     Unknown,
 }
 
-/// What a name has. A link is not followed.
+/// The kind of thing that has a name. A link is not followed.
 #[derive(Clone, Copy, Debug, PartialEq, Eq)]
 pub enum Found {
     /// Nothing.
@@ -24,13 +24,13 @@ pub enum Found {
     Unknown,
 }
 
-/// What came of the request for the lock of a file.
+/// The outcome of a request for a file's lock.
 #[derive(Clone, Copy, Debug, PartialEq, Eq)]
 pub enum Lock {
-    /// This process holds it, until the file is closed.
+    /// This process holds the lock until the file is closed.
     Taken,
     /// The file system knows no locks.
     Unsupported,
-    /// Another process holds it, or the system refused it.
+    /// Another process holds the lock, or the system refused it.
     Held,
 }

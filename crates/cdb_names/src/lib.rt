@@ -1,4 +1,4 @@
-//! Names of files: looks, locks and links, and a file that is replaced at once or not at all,
+//! Names of files: looks, locks and links, and a file that is replaced in one step or not at all,
 //! whatever happens.
 #![tactic(auto)]
 

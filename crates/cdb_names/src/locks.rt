@@ -1,4 +1,4 @@
-// What the system answers to the request for a lock.
+// The system's answer to a request for a lock.
 ghost use Rattle.std.specs.Prelude.{◌≡◌, IfErr, true};
 ghost use Rattle.cdb_names.specs.Refusals.{may_be_for};
 ghost use Rattle.cdb_names.specs.declared.answer.Lock.TheVariants.{Held};
@@ -8,17 +8,17 @@ use crate::refusal::Cause;
 use cdb_store::RealFile;
 use std::fs::TryLockError;
 
-/// Requests the lock of an open file, and does not wait for it. `Ok(false)`: its file system knows
-/// none. Otherwise another process holds it, or the system refused it.
+/// Requests the lock of an open file, and does not wait for it. `Ok(false)`: its file system has no
+/// locks. `Err`: another process holds the lock, or the system refused it.
 pub fn locked(file: &RealFile) -> Result<bool, Cause>
     ensures { IfErr result (λ cause. may_be_for (Locked Held) cause ≡ true) }
 {
     lock_of(file.try_lock())
 }
 
-/// What came of the request for a lock. Only a file system that knows none says so: by `ENOLCK`,
-/// `ENOSYS` or `ENOTSUP`. Each other fault may hide a lock, as that of a file which was not opened
-/// to write does over NFS.
+/// Returns the outcome of a request for a lock. A file system has no locks only if it answers
+/// `ENOLCK`, `ENOSYS` or `ENOTSUP`. Each other fault may hide a lock, as it does over NFS for a
+/// file that was not opened to write.
 fn lock_of(answer: Result<(), TryLockError>) -> Result<bool, Cause>
     ensures { IfErr result (λ cause. may_be_for (Locked Held) cause ≡ true) }
 {

@@ -1,4 +1,4 @@
-// What the system says of names and open files, which is compared by device and inode.
+// The system's answers about names and open files, which are compared by device and inode.
 ghost use Rattle.std.specs.Prelude.{◌≡◌};
 ghost use Rattle.std.specs.Path.{path_parent};
 ghost use Rattle.cdb_names.specs.Replacing.{folder_from};
@@ -10,21 +10,21 @@ use std::os::unix::fs::MetadataExt;
 use std::path::Path;
 use std::rt::Files;
 
-/// What the system says of a name or of an open file.
+/// The system's answer about a name or an open file.
 #[derive(Drop)]
 pub(crate) enum Look {
-    /// This.
+    /// The metadata of the thing that is there.
     There(Metadata),
-    /// That nothing is there.
+    /// Nothing is there.
     Missing,
-    /// Nothing: the call failed, with an error of this number.
+    /// No answer: the call failed, with an error of this number.
     Unknown(Option<i32>),
 }
 
-/// True if something is so, or the number of the error of the call that did not say.
+/// True if something is so, or the number of the error of the call that failed.
 pub(crate) type Said = Result<bool, Option<i32>>;
 
-/// What a look came to. Only "no such file" says that nothing is there.
+/// Returns the answer of a look. Only "no such file" means that nothing is there.
 pub(crate) fn looked(answer: io::Result<Metadata>) -> Look {
     match answer {
         Ok(found) => Look::There(found),
@@ -33,7 +33,7 @@ pub(crate) fn looked(answer: io::Result<Metadata>) -> Look {
     }
 }
 
-/// Answers whether both are of one file: of one device and inode.
+/// Returns true if both looks show one file: the same device and inode.
 pub(crate) fn is_one(one: &Look, other: &Look) -> Said {
     match (one, other) {
         (Look::There(one), Look::There(other)) => {
@@ -44,7 +44,7 @@ pub(crate) fn is_one(one: &Look, other: &Look) -> Said {
     }
 }
 
-/// Answers whether a file is what a name has, or what it leads to as a link.
+/// Returns true if a file has a name, or the name is a link that leads to it.
 pub(crate) fn is_one_of<R: Files<File = File>>(rt: &R, file: &Look, name: &str) -> Said {
     let found = looked(fs::symlink_metadata(rt, name));
     match is_one(file, &found) {
@@ -58,7 +58,7 @@ pub(crate) fn is_link(look: &Look) -> bool {
     matches!(look, Look::There(found) if found.is_symlink())
 }
 
-/// Returns true if a name has an open file, or the number of the error of the look that failed.
+/// Returns true if an open file has a name, or the number of the error of the look that failed.
 pub fn has_name<R: Files<File = File>>(
     rt: &R,
     name: &str,
@@ -70,7 +70,7 @@ pub fn has_name<R: Files<File = File>>(
     )
 }
 
-/// The folder of a name.
+/// Returns the folder of a name.
 pub(crate) fn folder_of(name: &str) -> &str
     ensures { result.now ≡ folder_from (path_parent name.now) }
 {

@@ -1,4 +1,4 @@
-//! The calls on names and what they answered, which only clauses read.
+//! The calls on names and their answers, which only clauses read.
 ghost use Rattle.std.specs.Prelude.{◌≡◌, List, ℕ, [], ◌∷◌};
 ghost use Rattle.std.specs.Borrow.{ftrue};
 ghost use Rattle.cdb_store.specs.Calls.{Calls};
@@ -10,32 +10,33 @@ use crate::shown::Shown;
 use cdb_store::Trace;
 use std::marker::{Model, PhantomData};
 
-/// What a call on names answered.
+/// A call on names, with its answer.
 #[derive(Clone, Copy)]
 pub enum NameCall {
-    /// Whether the name leads to something that is no regular file.
+    /// The answer whether the name leads to something that is no regular file.
     Special(Answer),
-    /// Whether the file of the name is that of the other name too.
+    /// The answer whether the file of the name has the other name too.
     Same(Answer),
-    /// What the name has.
+    /// The kind of thing that has the name.
     Looked(Found),
     /// The regular file of the name was opened.
     Opened,
-    /// It was not.
+    /// The regular file of the name was not opened.
     NotOpened(NameFault),
     /// A new file was made under the name, with a request for these permission bits.
     Made(u32),
-    /// None was made.
+    /// No file was made under the name.
     NotMade(NameFault),
-    /// What came of the request for the lock of the file that was opened or made last.
+    /// The outcome of the request for the lock of the file that was opened or made last.
     Locked(Lock),
-    /// Whether the name has that file.
+    /// The answer whether the file that was opened or made last has the name.
     Own(Answer),
-    /// Whether standard input is the file of the name.
+    /// The answer whether standard input is the file of the name.
     Input(Answer),
-    /// What the system shows of the regular file that has the name, or that none has it, if it said.
+    /// The regular file that has the name, as the system shows it, or that none has it, if the
+    /// system said.
     Bits(Option<Option<Shown>>),
-    /// What it shows of the open file of the name, if it said.
+    /// The open file of the name, as the system shows it, if the system said.
     Seen(Option<Shown>),
     /// The system was requested to give the file of the name these permission bits.
     Set(u32),
@@ -43,13 +44,13 @@ pub enum NameCall {
     Removed,
     /// The removal failed, or its outcome is unknown.
     NotRemoved,
-    /// The file of the name, which has so many bytes, replaced what had the other name.
+    /// The file of the name, with this number of bytes, replaced what had the other name.
     Renamed(u64),
     /// The rename failed, or its outcome is unknown.
     NotRenamed(u64, NameFault),
     /// The folder of the name was synced.
     Synced,
-    /// It was not.
+    /// The folder of the name was not synced.
     NotSynced,
 }
 
@@ -66,7 +67,7 @@ impl Model for NameTrace {
 }
 
 impl NameTrace {
-    /// No calls.
+    /// Returns a list without calls.
     pub fn new() -> NameTrace
         ensures { result.events ≡ [] }
     {

@@ -30,17 +30,17 @@ use crate::refusal::Refusal;
 use crate::shown::Shown;
 use cdb_store::RawFile;
 
-/// A file that was not renamed, and why.
+/// A file that was not renamed, and the reason.
 #[derive(Drop)]
 pub struct Unrenamed<F> {
     /// The file.
     pub file: F,
-    /// Why.
+    /// The reason why it was not renamed.
     pub fault: NameFault,
 }
 
-/// The names of files, by the calls on them, each of which notes what it answered in proof-only
-/// data. A call that failed never counts as an answer: the caller decides what follows from it.
+/// The names of files, by the calls on them. Each call notes its answer in proof-only data. A call
+/// that failed never counts as an answer: the caller decides what follows from the failure.
 pub trait Names {
     /// A file that was opened or made.
     type File: RawFile + Drop;
@@ -48,31 +48,32 @@ pub trait Names {
     /// The calls, the newest first.
     ghost calls: { Self → NameCalls };
 
-    /// Memory for a copy of the name that was refused last was refused.
+    /// An allocation for a copy of the name that was refused last failed.
     ghost lacks: { Self → Type 0 };
 
-    /// The name that was refused last, and why. `None`: none was, or there was no memory for a copy
-    /// of it.
+    /// Returns the name that was refused last, and the reason. `None`: no name was, or there was no
+    /// memory for a copy of it.
     fn refusal(&self) -> Option<&Refusal>
         ensures why { IfSome result (λ refusal. IsNameRefusal refusal.now (calls self.now)) }
         ensures none { result ≡ None → IsUnrefused (calls self.now) ⊎ lacks self.now };
 
-    /// The number of the error of the last call that failed on the file from which a name was taken
-    /// last, if the system gave one.
+    /// Returns the number of the error of the last call that failed on the file whose name was
+    /// removed last, if the system gave one.
     fn file_error(&self) -> Option<i32>;
 
     /// Answers whether a name leads to something that is no regular file, and so is not to be
-    /// replaced: a folder, a device, a socket or a pipe. A name that leads to nothing does not.
+    /// replaced: a folder, a device, a socket or a pipe. A link that lies in `/dev` or `/proc`, or
+    /// leads to such a link, counts too. Any other name that leads to nothing does not.
     fn is_special(&mut self, name: &str) -> Answer
         ensures { calls self.new ≡ (Special result, name.now, [], []) ∷ calls self.old };
 
-    /// Answers whether what has a name, be it a file or a link, has the other name too, or is the
-    /// file that the other leads to as a link. So a file is known by another spelling of its name
+    /// Answers whether the file or link that has a name has the other name too, or is the file that
+    /// the other name leads to as a link. So a file is recognized by another spelling of its name
     /// and by a link to it, and a link by another spelling.
     fn is_file_of(&mut self, name: &str, other: &str) -> Answer
         ensures { calls self.new ≡ (Same result, name.now, other.now, []) ∷ calls self.old };
 
-    /// What a name has. A link is not followed.
+    /// Returns the kind of thing that has a name. A link is not followed.
     fn look(&mut self, name: &str) -> Found
         ensures { calls self.new ≡ (Looked result, name.now, [], []) ∷ calls self.old };
 
@@ -104,12 +105,13 @@ pub trait Names {
     fn is_input(&mut self, name: &str) -> Answer
         ensures { calls self.new ≡ (Input result, name.now, [], []) ∷ calls self.old };
 
-    /// What the regular file of a name, which is not followed as a link, shows: its permission bits
-    /// and whose it is. `Some(None)`: no regular file has the name. `None`: the system did not say.
+    /// Returns the permission bits and the user of the regular file of a name. A link is not
+    /// followed. `Some(None)`: no regular file has the name. `None`: the system did not say.
     fn bits_for(&mut self, name: &str) -> Option<Option<Shown>>
         ensures { calls self.new ≡ (Bits result, name.now, [], []) ∷ calls self.old };
 
-    /// What an open file of a name shows. `None`: the system did not say.
+    /// Returns the permission bits and the user of an open file of a name. `None`: the system did
+    /// not say.
     fn bits_of(&mut self, name: &str, file: &Self::File) -> Option<Shown>
         ensures { calls self.new
             ≡ (Seen result, name.now, [], Self.File.calls file.now) ∷ calls self.old };
@@ -121,15 +123,15 @@ pub trait Names {
         ensures { calls self.new
             ≡ (Set bits, name.now, [], Self.File.calls file.now) ∷ calls self.old };
 
-    /// Takes a name from an open file, if the file still has it: one whose lock is held, or that was
+    /// Removes a name if an open file still has it. The file is one whose lock is held, or that was
     /// made to look at it.
     fn remove_own(&mut self, name: &str, file: &Self::File)
         requires { MayTake name.now (calls self.old) }
         ensures { IsCleared name.now (Self.File.calls file.now) (calls self.old) (calls self.new) };
 
-    /// Gives an open file, which is closed then, the other name in place of its own and of what had
-    /// the other. A file that is of another length, or does not have its name any more, is
-    /// `Failed`.
+    /// Gives an open file, which is then closed, the other name in place of its own. The file
+    /// replaces what had the other name. `Failed` also if the file has another length or no longer
+    /// has its name.
     fn rename(
         &mut self,
         file: Self::File,

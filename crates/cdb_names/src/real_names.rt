@@ -1,4 +1,4 @@
-// The names of the system: the lines that call it, and note what it answered.
+// The names of the system: the lines that call it, and note its answers.
 ghost use Rattle.std.specs.Prelude.{◌≡◌, [], ◌∷◌, IfErr, None, OnOk, Some, string_bytes, true};
 ghost use Rattle.cdb_names.specs.declared.answer.Answer.TheVariants.{Yes};
 ghost use Rattle.cdb_names.specs.declared.answer.Lock.TheVariants.{Held};
@@ -43,7 +43,7 @@ pub struct RealNames<'a, R> {
 }
 
 impl<'a, R: Files<File = File> + AllocGlobal> RealNames<'a, R> {
-    /// Names on which no call was made yet.
+    /// Returns names without calls.
     pub fn new(rt: &'a R) -> RealNames<'a, R>
         ensures { result.trace.events ≡ [] }
     {
@@ -76,7 +76,7 @@ impl<'a, R: Files<File = File> + AllocGlobal> RealNames<'a, R> {
         self.refuse_of(call, name, other, name, cause, &Trace::new());
     }
 
-    /// Notes a call on a file, of which the calls are given, that refused this name.
+    /// Notes a call on a file with these calls. The call refused `refused`.
     fn refuse_of(
         &mut self,
         call: &NameCall,
@@ -100,7 +100,7 @@ impl<'a, R: Files<File = File> + AllocGlobal> RealNames<'a, R> {
 /// The permission bits for all, of a file's mode.
 const FOR_ALL: u32 = 0o777;
 
-/// The permission bits of what was looked at, for all, and whose it is.
+/// Returns the permission bits for all, and the user, of what was looked at.
 fn shown_by(found: &Metadata) -> Shown {
     Shown {
         bits: found.permissions().mode() & FOR_ALL,
@@ -108,8 +108,8 @@ fn shown_by(found: &Metadata) -> Shown {
     }
 }
 
-/// Removes what a name has, if it is an open file. Otherwise it was not removed: the number of the
-/// error, if a call failed. A look that failed is made once more.
+/// Removes a name if an open file has it. `Err`: it was not removed, with the number of the error
+/// if a call failed. A look that failed is made once more.
 fn removed<R: Files<File = File>>(rt: &R, name: &str, file: &RealFile) -> Result<(), Option<i32>> {
     let is_own = match has_name(rt, name, file) {
         Err(_) => has_name(rt, name, file)?,
@@ -121,8 +121,8 @@ fn removed<R: Files<File = File>>(rt: &R, name: &str, file: &RealFile) -> Result
     fs::remove_file(rt, name).map_err(|error| error.raw_os_error())
 }
 
-/// What is shown of what was looked at, if it is a regular file. If the system did not say: the
-/// number of its error.
+/// Returns the permission bits and the user of what was looked at, if it is a regular file. `Err`:
+/// the system did not say, with the number of its error.
 fn held_in(look: &Look) -> Result<Option<Shown>, Option<i32>> {
     match look {
         Look::There(found) if found.is_file() => Ok(Some(shown_by(found))),
@@ -131,7 +131,7 @@ fn held_in(look: &Look) -> Result<Option<Shown>, Option<i32>> {
     }
 }
 
-/// Why a call on a name did nothing.
+/// Returns the fault of a call on a name that failed with this error.
 fn fault_of(error: &io::Error) -> NameFault {
     if error.kind() == ErrorKind::OutOfMemory {
         NameFault::NoMemory
@@ -140,8 +140,8 @@ fn fault_of(error: &io::Error) -> NameFault {
     }
 }
 
-/// Why the regular file that was seen under a name was not opened: it is gone, so another create
-/// took it; what was opened was none; or the system's fault.
+/// Returns the reason why the regular file that was seen under a name was not opened: it is gone,
+/// so another create took it; it was no regular file when it was opened; or the system's error.
 fn unopened(error: &io::Error, _fault: NameFault) -> Cause
     ensures { may_be_for (NotOpened _fault) result ≡ true }
 {
@@ -152,8 +152,8 @@ fn unopened(error: &io::Error, _fault: NameFault) -> Cause
     }
 }
 
-/// Why no file was made under a name that nothing had: the one that was there could not be removed,
-/// another create has made one since, or the system's fault.
+/// Returns the reason why no file was made under a name that nothing had: the one that was there
+/// could not be removed, another create has made one since, or the system's error.
 fn unmade(error: &io::Error, unremoved: Option<i32>, _fault: NameFault) -> Cause
     ensures { may_be_for (NotMade _fault) result ≡ true }
 {
@@ -164,8 +164,8 @@ fn unmade(error: &io::Error, unremoved: Option<i32>, _fault: NameFault) -> Cause
     }
 }
 
-/// Why a lock is not to be had. What another process holds may be a file that a create left whole: a
-/// file that is built has other permission bits.
+/// Returns the reason why a lock is not to be had. A create may have left the file whole if another
+/// process holds it and its permission bits are not those that a file has while it is built.
 fn held_by(file: &RealFile, cause: Cause) -> Cause
     requires { may_be_for (Locked Held) cause ≡ true }
     ensures { may_be_for (Locked Held) result ≡ true }
@@ -176,8 +176,8 @@ fn held_by(file: &RealFile, cause: Cause) -> Cause
     }
 }
 
-/// Why a name's file is that of another name too: it is one file under two names, unless the name
-/// does not have it any more. Then another create gave it the other name in the meantime.
+/// Returns the reason why two names had one file: it is one file under two names, unless the first
+/// name does not have it any more. Then another create gave it the other name in the meantime.
 fn same_cause<R: Files<File = File>>(rt: &R, own: &Look, name: &str) -> Cause
     ensures { may_be_for (Same Yes) result ≡ true }
 {
@@ -187,7 +187,7 @@ fn same_cause<R: Files<File = File>>(rt: &R, own: &Look, name: &str) -> Cause
     }
 }
 
-// That these lines do what they note no proof says: each has its tests, which are named at it.
+// No proof shows that these lines do what they note: each has its tests, which are named at it.
 impl<'a, R: Files<File = File> + AllocGlobal> Names for RealNames<'a, R> {
     type File = RealFile;
 
@@ -431,8 +431,8 @@ impl<'a, R: Files<File = File> + AllocGlobal> Names for RealNames<'a, R> {
     }
 
     // Shown by tests/cli/taken.py, orders.py and tests/faults/others.py.
-    /// Why it was not removed is kept for the next file of that name alone: else it would hide why
-    /// the create ended.
+    /// The reason why it was not removed is kept only for the next file of that name: else it would
+    /// hide why the create ended.
     fn remove_own(&mut self, name: &str, file: &RealFile) {
         self.file_error = file.last_error();
         let removed = removed(self.rt, name, file);
@@ -521,7 +521,7 @@ fn renamed<R: Files<File = File>>(
     }
 }
 
-/// What a removal was.
+/// Returns the call that a removal is noted as.
 fn removal(removed: bool) -> NameCall
     ensures { IsRemoval result }
 {

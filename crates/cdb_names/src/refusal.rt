@@ -1,11 +1,11 @@
-// Why a call on a name was refused.
+// The reason why a call on a name was refused.
 ghost use Rattle.std.specs.Prelude.{◌≡◌, true};
 ghost use Rattle.cdb_names.specs.Refusals.{is_of_system};
 
 use std::alloc::{AllocError, Global};
 use std::io;
 
-/// Why a call on a name was refused: the system's error, or what was found.
+/// The reason why a call on a name was refused: the system's error, or what was found.
 #[derive(Clone, Copy, Debug, PartialEq, Eq)]
 pub enum Cause {
     /// The system's error of this number.
@@ -17,39 +17,39 @@ pub enum Cause {
     /// Another process holds the lock of a file that has the permission bits of a whole one, so
     /// maybe no create makes it.
     Locked,
-    /// The name is that of a link.
+    /// A link has the name.
     Link,
-    /// The name is that of no regular file.
+    /// Something that is no regular file has the name.
     Special,
-    /// A pipe or a device has no places to read at.
+    /// A pipe or a device cannot be read by offset.
     NoPlaces,
-    /// The file is that of the other name too.
+    /// The file has the other name too.
     Same,
-    /// The file is that of standard input.
+    /// The file is standard input.
     Input,
-    /// The temporary file is not the one that was made, or not as long.
+    /// The temporary file is not the one that was made, or has another length.
     Replaced,
     /// The temporary file was removed.
     Removed,
-    /// The name has not got the file any more that was opened under it.
+    /// The name no longer has the file that was opened under it.
     Lost,
     /// The file did not get its permission bits.
     Bits,
     /// The file got the number of a standard stream that is closed.
     Closed,
-    /// The file is that of standard output.
+    /// The file is standard output.
     Output,
 }
 
 impl Cause {
-    /// The cause that the system gave.
+    /// Returns the cause that the system gave.
     pub fn of_error(error: &io::Error) -> Cause
         ensures { is_of_system result ≡ true }
     {
         Cause::of_number(error.raw_os_error())
     }
 
-    /// The cause of a call whose error had this number, if it had one.
+    /// Returns the cause of a call whose error had this number, if it had one.
     pub fn of_number(number: Option<i32>) -> Cause
         ensures { is_of_system result ≡ true }
     {
@@ -60,14 +60,14 @@ impl Cause {
     }
 }
 
-/// What is kept of the newest call that refused a name.
+/// The newest call that refused a name, as far as it is kept.
 #[derive(Drop)]
 pub enum Newest {
-    /// No call refused one.
+    /// No call refused a name.
     Nothing,
-    /// The name, and why.
+    /// The name, and the reason.
     Refused(Refusal),
-    /// A call did, and memory for a copy of its name was refused.
+    /// A call refused a name, and an allocation for its copy failed.
     Unkept,
 }
 
@@ -76,7 +76,8 @@ impl Newest {
     ghost use Rattle.cdb_names.specs.Refusals.{refusal_in};
     ghost use Rattle.cdb_names.specs.declared.refusal.Newest.TheVariants.{Nothing};
 
-    /// The refusal of a call on a name, and on another one, if there is memory for their copies.
+    /// Returns the refusal of a call on a name, and on another one, if there is memory for their
+    /// copies.
     pub fn copied(alloc: Global, name: &str, other: &str, cause: Cause) -> Newest
         ensures name { IfSome (refusal_in result) (λ r. string_bytes r.name ≡ name.now) }
         ensures other { IfSome (refusal_in result) (λ r. string_bytes r.other ≡ other.now) }
@@ -90,21 +91,21 @@ impl Newest {
     }
 }
 
-/// A name on which a call was refused, and why.
+/// A name that a call refused, and the reason.
 #[derive(Drop)]
 pub struct Refusal {
     /// The name.
     pub name: String,
     /// The other name of the call, or none.
     pub other: String,
-    /// Why.
+    /// The reason.
     pub cause: Cause,
 }
 
 impl Refusal {
     ghost use Rattle.std.specs.Prelude.{IfOk, string_bytes};
 
-    /// The refusal of a call on a name, and on another one.
+    /// Returns the refusal of a call on a name, and on another one.
     pub fn new(alloc: Global, name: &str, other: &str, cause: Cause) -> Result<Refusal, AllocError>
         ensures name { IfOk result (λ r. string_bytes r.name ≡ name.now) }
         ensures other { IfOk result (λ r. string_bytes r.other ≡ other.now) }

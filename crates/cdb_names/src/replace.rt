@@ -1,4 +1,4 @@
-// A file is replaced under its name: at once, or not at all.
+// A file is replaced under its name: in one step, or not at all.
 ghost use Rattle.std.specs.Prelude.{◌≡◌, ◌≢◌, ℕ, ◌+◌, ◌<◌, ◌↔◌, ◌⊎◌, ⊤, List, [], ◌∷◌, IsTrue};
 ghost use Rattle.std.specs.Prelude.{IfOk, IfErr, OnOk, OnErr, Result, Ok, Err, true, false};
 ghost use Rattle.cdb_store.specs.Calls.{IsSynced, FileImage};
@@ -31,33 +31,35 @@ use cdb_store::{FileStore, READ_AND_WRITTEN, RawFile, Store};
 /// The permission bits of a file that this user alone may read and write.
 pub(crate) const PRIVATE: u32 = 0o600;
 
-/// The permission bit by which its owner may write a file.
+/// The permission bit that lets its owner write a file.
 const OWNER_WRITES: u32 = 0o200;
 
-/// What builds a file in a store that is empty.
+/// A builder of a file in an empty store.
 pub trait Builder<S: Store> {
-    /// Why it did not.
+    /// The reason why it did not build the file.
     type Fault: Drop;
 
-    /// What it writes to beside the store, as for lines of warnings: `()` if there is nothing.
+    /// The type of `told`, which it writes to beside the store, as for lines of warnings: `()` if
+    /// there is nothing.
     type Told;
 
-    /// What it returns beside the store, such as what it read: `()` if there is nothing.
+    /// The type of the value that it returns beside the store, such as what it read: `()` if there
+    /// is nothing.
     type Back;
 
-    /// The files that it may build if it hands this back.
+    /// The files that it may build if it returns this value.
     ghost builds: { Self → Self.Back → List ℕ → Type 0 };
 
-    /// Why it may not have built one in a store, as that was and as it is then. A builder that does
-    /// not say may fail for any reason.
+    /// The faults that it may have, given the store as it was before and as it is after. A builder
+    /// that leaves this out may fail for any reason.
     ghost fails: { Self → S → S → Self.Fault → Type 0 } = { λ _ _ _ _. ⊤ };
 
-    /// What it returns, and what it leaves in what it writes to beside, as that was and as it is
-    /// then, with the images of the store and the answer.
+    /// The relation of the value that it returns, `told` as it was before and as it is after, the
+    /// images of the store, and the answer.
     ghost tells: { Self → Self.Back → Self.Told → Self.Told → (List ℕ → Type 0)
         → Result Unit Self.Fault → Type 0 };
 
-    /// What it may return if it is given no store.
+    /// The values that it may return if it is given no store.
     ghost gives_up: { Self → Self.Back → Type 0 };
 
     /// Builds the file, and returns the store. It need not flush the store: the caller does, after
@@ -73,7 +75,7 @@ pub trait Builder<S: Store> {
         ensures { gives_up self result };
 }
 
-/// Why a file was not replaced.
+/// The reason why a file was not replaced.
 #[derive(Clone, Copy, Debug, PartialEq, Eq)]
 pub enum ReplaceFault<E> {
     /// The file's name is empty or ends in a slash, or the temporary name is the same or leads to
@@ -86,9 +88,9 @@ pub enum ReplaceFault<E> {
     /// The file was built, and could not be synced.
     Write,
     /// The file's name leads to a folder, a device, a socket or a pipe, or the rename failed, or
-    /// the temporary name was no longer that of the file that was made.
+    /// the file that was made no longer had the temporary name.
     Rename,
-    /// It was not built.
+    /// The file was not built.
     Build(E),
 }
 
@@ -102,7 +104,7 @@ pub fn is_no_name(name: &str) -> bool
     }
 }
 
-/// What the fault of an open is to the caller.
+/// Returns the caller's fault for the fault of an open.
 fn open_fault<E>(fault: NameFault) -> ReplaceFault<E>
     ensures { result ≡ of_open fault }
 {
@@ -112,8 +114,9 @@ fn open_fault<E>(fault: NameFault) -> ReplaceFault<E>
     }
 }
 
-/// Sees that the names can be those of a replacement: they are two, and the name leads to a regular
-/// file or to nothing. Answers what a regular file that has the name shows.
+/// Checks that a replacement can have these names: they are two, and the name leads to a regular
+/// file or to nothing. Returns the permission bits and the user of a regular file that has the
+/// name.
 fn see_names<N: Names, E: Drop>(
     names: &mut N,
     name: &str,
@@ -150,7 +153,7 @@ fn see_names<N: Names, E: Drop>(
     }
 }
 
-/// Takes the lock of an open file of a name, and answers whether no other process holds it then.
+/// Takes the lock of an open file of a name. Returns true unless another process may hold it.
 fn is_locked<N: Names>(names: &mut N, name: &str, file: &N::File) -> bool
     ensures free { result ≡ true → TakesLock name.now (N.calls names.old) (N.calls names.new) }
     ensures held { result ≡ false
@@ -246,9 +249,10 @@ fn is_own_apart<N: Names>(names: &mut N, name: &str, temporary: &str, file: &N::
     }
 }
 
-/// The permission bits that the system gives a plain new file of the folder, by the umask and the
-/// folder's access list. A file that is made under the temporary name, which nothing has, shows
-/// these, and is removed again. Its lock is not requested: whoever may read the file could hold it.
+/// Returns the permission bits that the system gives a plain new file of the folder, by the umask
+/// and the folder's access list. A file that is made under the temporary name, which nothing has,
+/// shows these, and is removed again. Its lock is not requested: whoever may read the file could
+/// hold it.
 fn show_bits<N: Names, E: Drop>(
     names: &mut N,
     name: &str,
@@ -281,7 +285,7 @@ fn show_bits<N: Names, E: Drop>(
 }
 
 /// Makes a file under the temporary name, which nothing has, for this user alone, and takes its
-/// lock. Answers whose file it is too.
+/// lock. Returns also the file's user.
 fn make_own<N: Names, E: Drop>(
     names: &mut N,
     name: &str,
@@ -343,11 +347,11 @@ fn make_plain<N: Names, E: Drop>(
     Ok((made.0, Shown { bits, user }))
 }
 
-/// Makes a file under the temporary name, in place of an old one of that name that is not the file
-/// to be replaced and that no other create holds. Answers the permission bits too that the file is
-/// to have if no file of this user has the name by then, and whose it is. They are those of the
-/// file that has the name now, if it is of the user of the file that was made. Another user chose
-/// those of his: then that file is removed again, and made anew as if nothing had the name.
+/// Makes a file under the temporary name. An old file of that name is removed first, unless it is
+/// the file to be replaced or another create holds it. Returns also the new file's user, and the
+/// permission bits that it is to have if no file of this user has the name by then. They come from
+/// the file that has the name now, if both files have the same user. Another user's bits are his
+/// choice: then the new file is removed again, and made anew as if nothing had the name.
 fn make_temporary<N: Names, E: Drop>(
     names: &mut N,
     name: &str,
@@ -396,8 +400,8 @@ fn sync<F: RawFile, E>(store: &mut FileStore<F>) -> Result<(), ReplaceFault<E>>
     }
 }
 
-/// Syncs a file that its owner may not write once it has these permission bits: a create that is
-/// killed then leaves a file that he cannot open to remove it, but whose bytes are sure.
+/// Syncs a file that its owner may not write once it has these permission bits. A create that is
+/// killed then leaves a file that he cannot open to remove it, but its bytes are sure.
 fn sync_unwritable<F: RawFile, E>(
     store: &mut FileStore<F>,
     bits: u32,
@@ -415,10 +419,10 @@ fn sync_unwritable<F: RawFile, E>(
 }
 
 /// Gives the file that was built the permission bits with which it may get its name, and then syncs
-/// it with them. A look says what the file system made of them. If the owner may not write it then,
-/// it is synced before too: so what a create that is killed leaves is a file that he may write, and
-/// so remove, until its bytes are sure. If no regular file of the user that is passed has the name,
-/// it gets the bits that are passed.
+/// it with them. A look shows what the file system made of them. If the owner may not write it
+/// then, it is synced before too: so a create that is killed leaves a file that he may write, and
+/// so remove, until its bytes are sure. If no regular file of `shown`'s user has the name, it gets
+/// `shown`'s bits.
 fn seal<N: Names, E>(
     names: &mut N,
     store: &mut FileStore<N::File>,
@@ -454,7 +458,7 @@ fn seal<N: Names, E>(
     sync(store)
 }
 
-/// What the fault of a rename is to the caller.
+/// Returns the caller's fault for the fault of a rename.
 fn rename_fault<E>(fault: NameFault) -> ReplaceFault<E>
     ensures { result ≡ of_name fault }
 {
@@ -508,16 +512,16 @@ fn publish<N: Names, E: Drop>(
 /// the file to be replaced or another create holds it. Whatever else has that name stays, a link
 /// too, and so does a file that came there after the look. The new file is made for this user alone
 /// and locked until after the rename, so no other create takes it. Once it is whole it gets the
-/// permission bits of the regular file that it replaces, if that is of the same user, and is synced
-/// with them; if its owner may not write it then, it is synced before too. If there is none of this
-/// user by then, it gets those of the one that was there before the build, or those of a plain new
-/// file: one that was made under the temporary name showed them before. After a fault the temporary
-/// name is taken from the file, if it still has it. A folder that cannot be synced is no fault.
+/// permission bits of the regular file that it replaces, if both have the same user, and is synced
+/// with them. If its owner may not write it then, it is synced before too. If no file of this user
+/// has the name by then, it gets the bits of his file that had the name before the build, or of a
+/// plain new file: one that was made under the temporary name showed them before. After a fault the
+/// temporary name is removed, if the file still has it. A folder that cannot be synced is no fault.
 ///
 /// If the system did not say what a name has, nothing is touched: `Open`.
 ///
-/// What the builder writes to beside the file is passed on to it. What it returned is forwarded, as
-/// it built or as it gave up, if no temporary file could be made.
+/// `told` is passed on to the builder. The value that the builder returned is returned: by its
+/// build, or by `give_up` if no temporary file could be made.
 pub fn replace_file<N: Names, B: Builder<FileStore<N::File>>>(
     names: &mut N,
     name: &str,
@@ -531,9 +535,9 @@ pub fn replace_file<N: Names, B: Builder<FileStore<N::File>>>(
     // A name is taken only from a file whose lock this create holds, or that it made to look at it.
     // A file is renamed only if its lock is held, its name was seen to have it, the two names were
     // seen to be of two files, and the name led to a regular file or to nothing. It was synced once
-    // it had its permission bits, and before too if its owner may not write it with them; they are
-    // those of a file of the name that is of the same user as the new one, which this process made,
-    // or no others than those of a plain new file. So another user's file gives none.
+    // it had its permission bits, and before too if its owner may not write it with them. The bits
+    // come from a file of the name whose user is the new file's, which this process made, or are no
+    // others than a plain new file's. So another user's file gives none.
     ensures guarded { AreGuarded name.now (N.calls names.old) (N.calls names.new) }
     ensures ok { OnOk result.1 (IsRenamed temporary.now name.now (N.calls names.new)) }
     ensures renames_ok { OnOk result.1
@@ -544,13 +548,12 @@ pub fn replace_file<N: Names, B: Builder<FileStore<N::File>>>(
     // one text was given for both names.
     ensures err { IfErr result.1
         (EndsIn temporary.now name.now (N.calls names.old) (N.calls names.new)) }
-    // The fault of the builder is the one that it answered, and the file that it left is the one
-    // from which the temporary name is taken.
+    // The fault of the builder is the one that it returned, and the temporary name is removed from
+    // the file that it left.
     ensures build { IfErr result.1 (IsOfBuilder (FailsToBuild (B.fails builder) temporary.now
         (N.calls names.old) (N.calls names.new))) }
-    // If nothing was built, no file is whole, the builder gave up, and what it writes to beside is
-    // as it was. Else that is as the builder left it, and at Ok the file that it built then was
-    // renamed.
+    // If nothing was built, no file is whole, the builder gave up, and `told` is as it was. Else
+    // `told` is as the builder left it, and at Ok the file that it built then was renamed.
     ensures told { BuilderTells N.File.RawFile (B.gives_up builder) (B.tells builder) temporary.now name.now
         (N.calls names.old) (N.calls names.new) result.0 told.old told.new result.1 }
     // With one text for both names nothing is done.

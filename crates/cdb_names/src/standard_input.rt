@@ -7,8 +7,8 @@ use std::rt::Files;
 /// The name under which the system shows the file of standard input.
 const INPUT: &str = "/proc/self/fd/0";
 
-/// What the system says of the file of standard input: that there is none, if it is closed or
-/// `/proc` is not mounted.
+/// Returns the system's answer about the file of standard input: that there is none, if it is
+/// closed or `/proc` is not mounted.
 pub(crate) fn input_look<R: Files<File = File>>(rt: &R) -> Look {
     looked(fs::metadata(rt, INPUT))
 }

@@ -15,8 +15,8 @@ const ENOMEM: i32 = 12;
 /// The system's number for "too many levels of symbolic links".
 const ELOOP: i32 = 40;
 
-/// Answers whether a name is that of a link in `/dev`, or of one that lies in `/proc` or leads
-/// there by a link, as `/dev/stdout` does wherever it lies.
+/// Returns true if a name is a link that lies in `/dev` or in `/proc`, or leads to such a link, as
+/// `/dev/stdout` does wherever it lies.
 pub(crate) fn is_system_link<R: Files<File = File> + Alloc>(rt: &R, name: &str) -> Said {
     if link_at(rt, name)? {
         return leads_into_system(rt, name);
@@ -24,12 +24,13 @@ pub(crate) fn is_system_link<R: Files<File = File> + Alloc>(rt: &R, name: &str) 
     Ok(false)
 }
 
-/// Answers whether a link is one, or leads to one. Memory that is refused is no answer.
+/// Returns true if a link lies in `/dev` or in `/proc`, or leads to such a link. An allocation that
+/// fails is no answer.
 fn leads_into_system<R: Files<File = File> + Alloc>(rt: &R, name: &str) -> Said {
     let Ok(mut at) = PathBuf::from_str(rt.alloc(), name) else {
         return Err(Some(ENOMEM));
     };
-    // After the last link that the system follows, the name is looked at once more.
+    // After the last link that the system follows, the name is looked at one more time.
     for _ in 0..=LINKS {
         if !link_at(rt, at.as_path().as_str())? {
             return Ok(false);
@@ -49,7 +50,7 @@ fn leads_into_system<R: Files<File = File> + Alloc>(rt: &R, name: &str) -> Said 
     Err(Some(ELOOP))
 }
 
-/// Answers whether a name is that of a link.
+/// Returns true if a name is a link.
 fn link_at<R: Files<File = File>>(rt: &R, name: &str) -> Said {
     match looked(fs::symlink_metadata(rt, name)) {
         Look::Unknown(number) => Err(number),
@@ -57,7 +58,7 @@ fn link_at<R: Files<File = File>>(rt: &R, name: &str) -> Said {
     }
 }
 
-/// Answers whether a folder is `/dev`, or lies in `/proc`.
+/// Returns true if a folder is `/dev`, or lies in `/proc`.
 fn is_in_system<R: Files<File = File>>(rt: &R, folder: &str) -> Said {
     let found = looked(fs::metadata(rt, folder));
     if is_one(&found, &looked(fs::metadata(rt, "/dev")))? {
@@ -66,7 +67,7 @@ fn is_in_system<R: Files<File = File>>(rt: &R, folder: &str) -> Said {
     is_in_processes(rt, &found)
 }
 
-/// Answers whether a folder is of the file system that `/proc` has, if that has one of its own.
+/// Returns true if a folder lies in the file system of `/proc`, if `/proc` has its own.
 fn is_in_processes<R: Files<File = File>>(rt: &R, folder: &Look) -> Said {
     let processes = looked(fs::metadata(rt, "/proc"));
     let root = looked(fs::metadata(rt, "/"));

@@ -4,22 +4,22 @@ ghost use Rattle.cdb_names.specs.Replacing.{inner_of};
 
 use cdb_store::{Store, StoreFault};
 
-/// A store that hands everything to the inner one but the flush, so that who owns the inner store
-/// can flush it after a last change of its own.
+/// A store that forwards each call except the flush to the inner one. So the owner of the inner
+/// store can flush it after a last change of its own.
 #[derive(Drop)]
 pub struct Unsynced<S> {
     inner: S,
 }
 
 impl<S: Store> Unsynced<S> {
-    /// A store over this one.
+    /// Returns a store over this one.
     pub fn over(inner: S) -> Unsynced<S>
         ensures { inner_of result ≡ inner }
     {
         Unsynced { inner }
     }
 
-    /// The inner store, as it is.
+    /// Returns the inner store, unchanged.
     pub fn into_inner(self) -> S
         ensures { result ≡ inner_of self }
     {

@@ -7,16 +7,16 @@ use crate::shown::Shown;
 /// The permission bits that a file is to have before it gets its name.
 #[derive(Clone, Copy, Debug, PartialEq, Eq)]
 pub enum Wanted {
-    /// Those of this user's file that it replaces: it gets the same.
+    /// The bits of this user's file that it replaces: it gets the same.
     Old(u32),
-    /// It replaces none of this user: it gets no others than these, but may have fewer.
+    /// It replaces no file of this user: it gets no other bits than these, but may have fewer.
     New(u32),
 }
 
 impl Wanted {
-    /// What this user's file is to have where the regular file that has its name, if there is one,
-    /// shows this: its bits if it is his too, or else these. Those of another user's file are that
-    /// user's choice.
+    /// Returns the bits for a file of this user, where the regular file that has its name, if there
+    /// is one, shows `held`: its bits if it is his too, or else `bits`. The bits of another user's
+    /// file are that user's choice.
     pub fn of(held: Option<Shown>, user: u32, bits: u32) -> Wanted
         ensures { IsWanted held user bits result }
     {
@@ -26,7 +26,7 @@ impl Wanted {
         }
     }
 
-    /// The bits.
+    /// Returns the bits.
     pub fn bits(self) -> u32
         ensures { result ≡ wanted_bits self }
     {
