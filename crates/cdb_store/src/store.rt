@@ -96,8 +96,8 @@ pub trait Store {
     /// A count that rises if a write, a cut or a flush fails. It may rise elsewhere too.
     ghost unwritten: { Self → ℕ };
 
-    /// The number of bytes written so far. A write that returned `Ok` counts whole, and one that
-    /// failed counts in part or not at all.
+    /// The number of bytes written so far. A write that returned `Ok` counts with its length, and
+    /// one that failed with at most its length.
     ghost written: { Self → ℕ };
 
     /// Writes that end at or before this position take no memory.
