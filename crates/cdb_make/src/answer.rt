@@ -1,8 +1,8 @@
-// What a put answers.
+// The answer of a put.
 ghost use Rattle.std.specs.Prelude.{◌≡◌};
 ghost use Rattle.cdb_make.specs.Views.Maker.{is_present};
 
-/// What a put did.
+/// The answer of a put: what it did.
 #[derive(Clone, Copy, Debug, PartialEq, Eq)]
 pub enum Put {
     /// The record was appended, and no record of its key was there or looked for.
@@ -11,7 +11,7 @@ pub enum Put {
     AddedAgain,
     /// The key was there already, and nothing was appended.
     Present,
-    /// So many records of its key were taken out, and the record was appended.
+    /// This number of records of its key were taken out, and the record was appended.
     Replaced(u64),
 }
 

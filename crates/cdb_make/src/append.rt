@@ -1,4 +1,4 @@
-// Whole records, as they are in a file, are written after the others at once.
+// Whole records, as they are in a file, are written after the others by one write.
 ghost use Rattle.std.specs.Prelude.{◌≡◌, ℕ, ◌+◌, ◌*◌, ◌<◌, ◌≤◌, ◌⊎◌, ◌++◌, ◌∷◌, [], true, false, List, length, take, sum_by, IfOk, IfErr, OnOk, OnErr};
 ghost use Rattle.cdb_store.specs.Images.{ImagesHold as AreIn};
 ghost use Rattle.cdb_form.specs.Format.{whole_size, key_hash, KeyValue, IsRecord, record_bytes, record_size, prefix_size, prefix_record, whole_records};
@@ -15,7 +15,7 @@ use cdb_store::{MakeFault, Store};
 #[derive(Clone, Copy)]
 struct First<'a> {
     key: &'a [u8],
-    /// The number of bytes it has.
+    /// The number of bytes of the record.
     size: usize,
 }
 
@@ -34,19 +34,19 @@ fn first_record<L: Width>(bytes: &[u8]) -> First<'_>
     }
 }
 
-/// Which records of a run are appended.
+/// The records of a run that are appended.
 #[derive(Clone, Copy)]
 struct Fitting {
-    /// Their number.
+    /// The number of records that are appended.
     count: usize,
-    /// The number of bytes they have.
+    /// The number of bytes of the records that are appended.
     size: usize,
-    /// The limit keeps out a whole record that follows them.
+    /// True if the limit keeps out a whole record that follows them.
     passes: bool,
 }
 
-/// The first whole records at the start of some bytes for which a file has room: with the slots of
-/// their tables they take at most so many bytes.
+/// Returns the first whole records at the start of some bytes that fit into a file: with the slots
+/// of their tables they take at most `room` bytes.
 fn measure<L: Width>(bytes: &[u8], room: u64) -> Fitting
     ensures first { AreFirst L.WORD bytes.now result.count result.size }
     ensures room { sum_by (whole_size L.WORD) (take result.count (records_at L.WORD bytes.now))
@@ -109,7 +109,8 @@ impl<S: Store, L: Width> Maker<S, L> {
         Ok(())
     }
 
-    /// Notes the first whole records of some bytes, which are in the store after the others.
+    /// Notes the first `count` whole records of some bytes, which are in the store after the
+    /// others.
     ///
     /// `NoMemory`: the records that are noted are held, and the bytes after them belong to no
     /// record.
@@ -170,10 +171,10 @@ impl<S: Store, L: Width> Maker<S, L> {
         Ok(())
     }
 
-    /// Writes the first whole records of some bytes after the others, and notes them. A lazy maker
-    /// that has noted no record tags all that come from now on, also if this call has none.
+    /// Writes the first `count` whole records of some bytes after the others, and notes them. A
+    /// lazy maker that has noted no record tags all that come, also if this call has none.
     ///
-    /// The faults are those of `append`.
+    /// It fails as `append` does.
     fn append_first(&mut self, bytes: &[u8], count: usize, size: usize) -> Result<(), MakeFault>
         requires whole { self.old.broken ≡ false }
         requires first { AreFirst L.WORD bytes.now count size }
@@ -229,8 +230,8 @@ impl<S: Store, L: Width> Maker<S, L> {
         Ok(fitting.size)
     }
 
-    /// Appends the whole records at the start of some bytes, as they are, and answers how many
-    /// bytes they have.
+    /// Appends the whole records at the start of some bytes, as they are, and returns their length
+    /// in bytes.
     ///
     /// They are written by one write, and no record is copied. The bytes after the last whole
     /// record are left out: pass them again, before those that follow them. Records that go are

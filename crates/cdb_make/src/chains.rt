@@ -7,7 +7,7 @@ ghost use Rattle.cdb_make.specs.Chains.{AreChained, FindsLast, IsLast, IsIn, Has
 use crate::mark::{Mark, is_found_at, is_gone_at, is_gone_of_all};
 use std::alloc::{AllocError, Global};
 
-/// The number of entries that have a chain at most, since their numbers are 32 bits wide.
+/// The greatest number of entries in chains, since their numbers are 32 bits wide.
 const MOST: usize = 4294967295;
 
 /// Returns true if an entry has a hash, and its record does not go.
@@ -20,7 +20,7 @@ fn is_left(hashes: &[u32], marks: &[Mark], hash: u32, entry: usize) -> bool
     hashes[entry] == hash && !is_gone_of_all(marks, entry)
 }
 
-/// Marks that the records from `from` on go that a look has found.
+/// Marks as gone each record at or after `from` that a look has found.
 fn take_each(marks: &mut [Mark], from: usize)
     requires { from ≤ length marks.old }
     ensures long { length marks.new ≡ length marks.old }
@@ -34,12 +34,12 @@ fn take_each(marks: &mut [Mark], from: usize)
 }
 
 /// The first entries of a roll in chains, a chain for the hashes of each bucket: 8 to 12 bytes an
-/// entry. So a search looks at few entries but those of its hash, however many there are.
+/// entry. So a search looks at few entries with other hashes, however many there are.
 #[derive(Drop)]
 pub(crate) struct Chains {
-    /// The number after the last entry of each bucket, or 0 if it has none.
+    /// For each bucket the number after its last entry, or 0 if it has none.
     heads: Vec<u32>,
-    /// The same of the entries before each one in its bucket.
+    /// For each entry the number after the one before it in its bucket, or 0 if it is the first.
     before: Vec<u32>,
     ghost heads_room: { length heads.items ≤ vec_capacity heads },
     ghost before_room: { length before.items ≤ vec_capacity before },
@@ -62,7 +62,7 @@ impl Chains {
         }
     }
 
-    /// The bucket of a hash.
+    /// Returns the bucket of a hash.
     fn bucket(&self, hash: u32) -> usize
         requires { 0 < length self.now.heads.items }
         ensures bucket { result ≡ bucket_of (length self.now.heads.items) hash }
@@ -71,8 +71,8 @@ impl Chains {
         hash as usize % self.heads.len()
     }
 
-    /// The last entry below `end` that has the hash and no mark. If `end` is the number of such an
-    /// entry, the search goes on from it.
+    /// Returns the last entry below `end` that has the hash and does not go. If `end` is the number
+    /// of such an entry, the search goes on from it.
     pub(crate) fn last(
         &self,
         hashes: &[u32],
@@ -95,8 +95,9 @@ impl Chains {
         self.last_linked(hashes, marks, hash, at)
     }
 
-    /// Where such a search begins: at the entry before `end` if that has the hash and no mark, so
-    /// that no entry of a hash is looked at twice, or at the last of the bucket.
+    /// Returns the number after the first entry that a search below `end` looks at: the one before
+    /// `end` in its bucket if entry `end` has the hash and does not go, so that no entry of a hash
+    /// is looked at twice, else the last of the bucket.
     fn start(&self, hashes: &[u32], marks: &[Mark], hash: u32, end: usize) -> usize
         requires chained { AreChained self.now.heads.items self.now.before.items hashes.now (gone_of (all_marks (length hashes.now) marks.now)) }
         requires long { length marks.now ≤ length hashes.now }
@@ -114,7 +115,7 @@ impl Chains {
         self.heads[self.bucket(hash)] as usize
     }
 
-    /// The same among the entries that are in chains.
+    /// Does what `last` does, among the entries that are in chains.
     fn last_linked(&self, hashes: &[u32], marks: &[Mark], hash: u32, end: usize) -> Option<usize>
         requires chained { AreChained self.now.heads.items self.now.before.items hashes.now (gone_of (all_marks (length hashes.now) marks.now)) }
         requires long { length marks.now ≤ length hashes.now }
@@ -134,7 +135,7 @@ impl Chains {
         None
     }
 
-    /// Puts the first entry that is in no chain into that of its bucket.
+    /// Links the first unlinked entry into its bucket's chain, unless it goes.
     fn link(&mut self, hashes: &[u32], marks: &[Mark])
         requires chained { AreChained self.old.heads.items self.old.before.items hashes.now (gone_of (all_marks (length hashes.now) marks.now)) }
         requires long { length marks.now ≤ length hashes.now }
@@ -173,8 +174,8 @@ impl Chains {
         self.before.len() < self.heads.len() && self.before.len() < self.before.capacity()
     }
 
-    /// Puts a new entry into the chain of its bucket if that is wanted, all before it are in theirs,
-    /// and there is room for it. It takes no memory.
+    /// Links a new entry into its bucket's chain if that is wanted, all before it are linked, and
+    /// there is room for it. It takes no memory.
     #[inline(always)]
     pub(crate) fn push(&mut self, wanted: bool, entry: usize, hash: u32)
         ensures chained { (hashes : List ℕ) (marks : List Bool)
@@ -192,7 +193,7 @@ impl Chains {
         }
     }
 
-    /// Takes the last entry of all out of its chain.
+    /// Takes the last linked entry out of its chain.
     fn unlink(&mut self, hashes: &[u32], marks: &[Mark])
         requires chained { AreChained self.old.heads.items self.old.before.items hashes.now (gone_of marks.now) }
         requires long { length marks.now ≡ length hashes.now }
@@ -211,8 +212,8 @@ impl Chains {
         self.before.truncate(entry);
     }
 
-    /// Takes an entry out of its chain, which is marked then: `newer` is the number after the next
-    /// one of its bucket, or 0 if it is the last.
+    /// Takes an entry out of its chain, before it is marked as gone. `newer` is the number after
+    /// the next entry of its bucket, or 0 if it is the last.
     pub(crate) fn drop_entry(&mut self, hashes: &[u32], marks: &[Mark], newer: usize, entry: usize)
         requires chained { AreChained self.old.heads.items self.old.before.items hashes.now (gone_of marks.now) }
         requires long { length marks.now ≡ length hashes.now }
@@ -242,15 +243,15 @@ impl Chains {
         }
     }
 
-    /// So many entries it can have in chains before it takes memory.
+    /// Returns the number of entries that can be in chains before they take memory.
     fn room(&self) -> usize
         ensures { result ≡ min (min (vec_capacity self.now.before) (vec_capacity self.now.heads)) (2 ^ 32 - 1) }
     {
         self.before.capacity().min(self.heads.capacity()).min(MOST)
     }
 
-    /// Makes room for so many entries, or for as many as it can have. The chains stay. If memory is
-    /// refused while there are no chains, there may be no room any more.
+    /// Makes room for `count` entries, or for `MOST` if that is less. The chains stay. If an
+    /// allocation fails while there are no chains, there may be no room any more.
     pub(crate) fn reserve(&mut self, count: usize) -> Result<(), AllocError>
         ensures heads { self.new.heads.items ≡ self.old.heads.items }
         ensures before { self.new.before.items ≡ self.old.before.items }
@@ -267,7 +268,7 @@ impl Chains {
         self.heads.reserve(wanted.saturating_sub(self.heads.len()))
     }
 
-    /// Puts entries into the chains of their buckets until so many are in one.
+    /// Links entries into their buckets' chains until `most` are linked.
     fn link_up_to(&mut self, hashes: &[u32], marks: &[Mark], most: usize)
         requires chained { AreChained self.old.heads.items self.old.before.items hashes.now (gone_of (all_marks (length hashes.now) marks.now)) }
         requires long { length marks.now ≤ length hashes.now }
@@ -284,7 +285,7 @@ impl Chains {
         }
     }
 
-    /// Takes as many buckets as there is room for, and all entries out of their chains.
+    /// Takes all entries out of their chains, and makes all the buckets that there is room for.
     fn widen(&mut self)
         ensures chained { (hashes : List ℕ) (marks : List Bool)
             → AreChained self.new.heads.items self.new.before.items hashes marks }
@@ -300,8 +301,8 @@ impl Chains {
         let _ = self.heads.resize(room, 0);
     }
 
-    /// Puts the entries that are in no chain into those of their buckets, as many as there is room
-    /// for. It takes no memory. A look compares the others one by one.
+    /// Links the unlinked entries into their buckets' chains, until there is no more room. It takes
+    /// no memory. A look compares the others one by one.
     pub(crate) fn link_all(&mut self, hashes: &[u32], marks: &[Mark])
         requires chained { AreChained self.old.heads.items self.old.before.items hashes.now (gone_of (all_marks (length hashes.now) marks.now)) }
         requires long { length marks.now ≤ length hashes.now }
@@ -319,7 +320,7 @@ impl Chains {
         self.link_up_to(hashes, marks, most);
     }
 
-    /// Takes the entries from `from` on out of their chains.
+    /// Takes the entries at and after `from` out of their chains.
     pub(crate) fn cut(&mut self, hashes: &[u32], marks: &[Mark], from: usize)
         requires chained { AreChained self.old.heads.items self.old.before.items hashes.now (gone_of marks.now) }
         requires long { length marks.now ≡ length hashes.now }
@@ -331,7 +332,7 @@ impl Chains {
         }
     }
 
-    /// The number after the last entry in the bucket of a hash, or 0.
+    /// Returns the number after the last entry in the bucket of a hash, or 0 if it has none.
     fn head(&self, hashes: &[u32], marks: &[Mark], hash: u32) -> usize
         requires chained { AreChained self.now.heads.items self.now.before.items hashes.now (gone_of marks.now) }
         ensures last { IsLast (IsIn (length self.now.heads.items)
@@ -347,8 +348,8 @@ impl Chains {
         }
     }
 
-    /// Takes the records of a hash that a look has found out of their chain, and marks that they
-    /// go.
+    /// Takes the records of a hash that a look has found out of their chain, and marks them as
+    /// gone.
     fn take_linked(&mut self, hashes: &[u32], marks: &mut [Mark], hash: u32)
         requires chained { AreChained self.old.heads.items self.old.before.items hashes.now (gone_of marks.old) }
         requires long { length marks.old ≡ length hashes.now }
@@ -373,7 +374,7 @@ impl Chains {
         }
     }
 
-    /// Marks that the records of a hash go that a look has found, and takes them out of their
+    /// Marks as gone the records of a hash that a look has found, and takes them out of their
     /// chain.
     pub(crate) fn take(&mut self, hashes: &[u32], marks: &mut [Mark], hash: u32)
         requires chained { AreChained self.old.heads.items self.old.before.items hashes.now (gone_of marks.old) }

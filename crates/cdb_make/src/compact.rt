@@ -11,7 +11,7 @@ use crate::places::Places;
 use cdb_form::Width;
 use cdb_store::{Store, StoreFault};
 
-/// Where a record begins, or where the last one ends.
+/// Returns the place of record `n`, or `end` if `n` is past the last record.
 #[inline(always)]
 pub(crate) fn place_at<L: Width>(places: &Places<L>, n: usize, end: u64) -> u64
     ensures { result ≡ get_or (places_in places.now) n end }
@@ -21,8 +21,8 @@ pub(crate) fn place_at<L: Width>(places: &Places<L>, n: usize, end: u64) -> u64
 
 /// Moves the records that stay down, side by side. Each byte after the first gap moves once.
 ///
-/// `first` is the number of the first record that goes, or of all. It takes no memory. `Device`:
-/// the bytes before the records stay.
+/// `first` is the number of the first record that goes, or the number of records if none goes. It
+/// takes no memory. `Device`: the bytes before the records stay.
 pub(crate) fn compact_bytes<S: Store, L: Width>(
     store: &mut S,
     start: u64,
@@ -63,17 +63,17 @@ pub(crate) fn compact_bytes<S: Store, L: Width>(
     move_down(store, from, to, end - from)
 }
 
-/// What is left once records were taken out.
+/// The records that are left once others were taken out.
 #[derive(Clone, Copy)]
 pub(crate) struct Left {
-    /// Their number.
+    /// The number of records that are left.
     pub(crate) count: usize,
-    /// Where they end.
+    /// The place after the last record that is left.
     pub(crate) end: u64,
 }
 
-/// Leaves before all others the hash and the place of each record that stays. `first` is the number
-/// of the first that goes, or of all.
+/// Moves the hash and the new place of each record that stays before all others. `first` is the
+/// number of the first record that goes, or the number of records if none goes.
 pub(crate) fn compact_entries<L: Width>(
     start: u64,
     hashes: &mut [u32],

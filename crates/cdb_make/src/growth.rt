@@ -1,12 +1,12 @@
-// Room for one more.
+// Room for one more item in a vector.
 ghost use Rattle.std.specs.Prelude.{◌≡◌, ◌+◌, ◌/◌, ◌<◌, ◌≤◌, ◌⊎◌, length, vec_capacity, OnOk, OnErr};
 
 use std::alloc::AllocError;
 
-/// How many more there is room for at least, once there was none.
+/// The least number of items that a growth makes room for.
 const LEAST: usize = 64;
 
-/// Makes room for a quarter more than there are, and some.
+/// Makes room for a quarter more items than there are, and for `LEAST` more.
 #[cold]
 #[inline(never)]
 fn grow<T: Copy>(items: &mut Vec<T>) -> Result<(), AllocError>
@@ -19,8 +19,8 @@ fn grow<T: Copy>(items: &mut Vec<T>) -> Result<(), AllocError>
     items.reserve_exact(items.len() / 4 + LEAST)
 }
 
-/// Makes room for one more: if there is no room, for a quarter more than there are. So at most the
-/// fifth part of a long vector is spare. If memory is refused, nothing has changed.
+/// Makes room for one more item: if there is none, for a quarter more than there are. So at most
+/// about a fifth of a long vector is spare. If an allocation fails, nothing has changed.
 #[inline(always)]
 pub(crate) fn reserve_one<T: Copy>(items: &mut Vec<T>) -> Result<(), AllocError>
     ensures items { items.new.items ≡ items.old.items }

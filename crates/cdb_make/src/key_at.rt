@@ -11,13 +11,13 @@ use cdb_store::{Store, StoreFault};
 /// The number of bytes of a key that are read at a time.
 const PIECE: usize = 4096;
 
-/// The longest key for which a piece of this length does.
+/// The longest key, in bytes, that is read by a piece of this length.
 const SHORT: usize = 256;
 
 /// The longest key that is read with the header before it.
 const BESIDE: usize = 48;
 
-/// Why a look ended.
+/// The reason why a look failed.
 #[derive(Clone, Copy)]
 pub(crate) enum LookFault {
     /// The store failed.
@@ -34,7 +34,7 @@ impl From<StoreFault> for LookFault {
     }
 }
 
-/// Returns true if a key's bytes are at a place. As many are read at a time as a piece has.
+/// Returns true if a key's bytes are at a place. It reads at most the length of `piece` at a time.
 fn is_read_at<S: Store>(
     store: &mut S,
     place: u64,
@@ -81,7 +81,7 @@ pub(crate) fn key_is_at<S: Store>(store: &mut S, place: u64, key: &[u8]) -> Resu
 }
 
 /// Returns the number of bytes of a key that are read with the header of a record: all if the key
-/// is short and may end before `end`, else none.
+/// is short and fits into `room` bytes, else none.
 fn bytes_beside(key: &[u8], room: u64) -> usize
     ensures all { 0 < result → result ≡ length key.now }
     ensures within { result ≤ room }
@@ -94,8 +94,8 @@ fn bytes_beside(key: &[u8], room: u64) -> usize
     }
 }
 
-/// Returns true if a key's bytes are at a place, from which on these bytes were read: as many as
-/// the key has, or none.
+/// Returns true if a key's bytes are at a place. `bytes` were read there already: they have the
+/// key's length, or none were.
 fn key_follows<S: Store>(
     store: &mut S,
     place: u64,
@@ -119,7 +119,7 @@ fn key_follows<S: Store>(
     }
 }
 
-/// Reads the header of the record at a place, and as many bytes after it as there is room for.
+/// Fills `front` with the bytes at a record's place, and returns the header that it begins with.
 fn read_prefix<S: Store, L: Width>(
     store: &mut S,
     place: u64,
@@ -145,7 +145,7 @@ fn read_prefix<S: Store, L: Width>(
 /// Returns the number of bytes that the record at a place takes, if it has this key. The header and
 /// a short key take one read.
 ///
-/// `Foreign`: the place, or the record by the lengths of its header, passes `end`.
+/// `Foreign`: the header, or the record by the lengths in its header, passes `end`.
 pub(crate) fn look_at<S: Store, L: Width>(
     store: &mut S,
     place: u64,

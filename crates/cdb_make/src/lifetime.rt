@@ -11,7 +11,7 @@ use cdb_form::{GREATEST_HEAD, Width, head_size};
 use cdb_store::{MakeFault, Store};
 use std::alloc::Global;
 
-/// A store in which no maker was made, and why.
+/// A store and the reason why it has no maker.
 #[derive(Drop)]
 pub struct Refused<S> {
     /// The store, whatever it holds now.
@@ -20,7 +20,7 @@ pub struct Refused<S> {
     pub fault: MakeFault,
 }
 
-/// A maker whose file was not finished, and why.
+/// A maker and the reason why its file was not finished.
 #[derive(Drop)]
 pub struct Unfinished<S: Store, L: Width> {
     /// The maker, which takes more calls unless it is broken.
@@ -32,7 +32,7 @@ pub struct Unfinished<S: Store, L: Width> {
 impl<S: Drop> From<Refused<S>> for MakeFault {
     ghost from_gives = { λ r f. f ≡ r.fault };
 
-    /// Lets the store go.
+    /// Drops the store.
     fn from(refused: Refused<S>) -> MakeFault {
         refused.fault
     }
@@ -41,16 +41,16 @@ impl<S: Drop> From<Refused<S>> for MakeFault {
 impl<S: Store + Drop, L: Width> From<Unfinished<S, L>> for MakeFault {
     ghost from_gives = { λ u f. f ≡ u.fault };
 
-    /// Lets the maker go.
+    /// Drops the maker.
     fn from(unfinished: Unfinished<S, L>) -> MakeFault {
         unfinished.fault
     }
 }
 
-/// Leaves a head of all ones in a store and nothing else, and hands it on. All memory is taken
+/// Leaves a head of all ones in a store and nothing else, and flushes it. All memory is taken
 /// first.
 ///
-/// So no byte of a record reaches what holds the bytes before the head does.
+/// So no byte of a record reaches the medium that holds the bytes before the head does.
 fn emptied<S: Store, L: Width>(store: &mut S) -> Result<(), MakeFault>
     ensures head { OnOk result (IsUnfinished L.WORD (S.image store.new)) }
     ensures settled { OnOk result (S.settled store.new) }
@@ -75,7 +75,7 @@ impl<S: Store, L: Width> Maker<S, L> {
     ghost use Rattle.cdb_make.specs.Views.Maker.{Holds, Begins, is_lazy, IsUsable, IsFile, made_size, FinishWrites, PutsHeadLast, ComesFrom, SameCounts, FailsFinishing, CompactsAll, FailsCompactingAll, Follows, HasNotFailed};
     ghost use Rattle.cdb_make.specs.Views.Chains.{HasNoRoom};
 
-    /// A maker that takes records out at once, or later, as `new` and `lazy` make one.
+    /// Returns a maker as `new` does, or as the function `lazy` does if `lazy` is true.
     fn begun(alloc: Global, store: S, limit: u64, lazy: bool) -> Result<Maker<S, L>, Refused<S>>
         requires head { head_size L.WORD ≤ limit }
         requires words { limit ≤ L.GREATEST }
@@ -99,15 +99,15 @@ impl<S: Store, L: Width> Maker<S, L> {
         }
     }
 
-    /// A maker of a file of at most `limit` bytes in a store, which is emptied. It takes records
-    /// out at once.
+    /// Returns a maker of a file of at most `limit` bytes in a store, which is emptied. The maker
+    /// takes records out immediately.
     ///
-    /// Until the finish the head is one of all ones, whose tables lie outside of any file: so what
-    /// a maker leaves that does not finish is damaged. The store is flushed after this head, so no
-    /// byte of a record is on the disk before it.
+    /// Until the finish the head is all ones, and its tables lie outside of any file: so a file
+    /// that is not finished is damaged. The store is flushed after this head, so no byte of a
+    /// record is on the disk before it.
     ///
-    /// The store is returned if that failed: with `NoMemory` as it was, and with `Writing` it
-    /// failed, and may hold anything.
+    /// If that fails, the store is returned: after `NoMemory` it is as it was, and after `Writing`
+    /// it failed, and may hold anything.
     pub fn new(alloc: Global, store: S, limit: u64) -> Result<Maker<S, L>, Refused<S>>
         requires head { head_size L.WORD ≤ limit }
         requires words { limit ≤ L.GREATEST }
@@ -119,9 +119,9 @@ impl<S: Store, L: Width> Maker<S, L> {
         Maker::begun(alloc, store, limit, false)
     }
 
-    /// The same, of a maker that takes records out later: it marks them, and no look finds them.
-    /// Their bytes stay on the store until a pass closes all gaps at once. `finish` makes one
-    /// first.
+    /// Returns a maker as `new` does, but one that takes records out later: it marks them, and no
+    /// look finds them. Their bytes stay on the store until one pass closes all gaps. `finish`
+    /// makes such a pass first.
     ///
     /// So however many records go, the others move a few times at most.
     pub fn lazy(alloc: Global, store: S, limit: u64) -> Result<Maker<S, L>, Refused<S>>
@@ -135,7 +135,7 @@ impl<S: Store, L: Width> Maker<S, L> {
         Maker::begun(alloc, store, limit, true)
     }
 
-    /// Its store, as it is.
+    /// Returns the maker's store, as it is.
     pub fn into_store(self) -> S
         ensures { result ≡ self.store }
     {
@@ -152,7 +152,8 @@ impl<S: Store, L: Width> Maker<S, L> {
         store
     }
 
-    /// Takes the records that go out, and frees the chains, whose memory the tables can have then.
+    /// Takes out the records that go, and frees the memory of the chains, so that the tables can
+    /// have it.
     fn compact_for_finish(&mut self) -> Result<(), MakeFault>
         ensures compacts_all { OnOk result (CompactsAll self.old self.new) }
         ensures fails { IfErr result (FailsCompactingAll self.old self.new) }
@@ -166,8 +167,8 @@ impl<S: Store, L: Width> Maker<S, L> {
         Ok(())
     }
 
-    /// Takes the records that go out, and writes the tables and the head of the others, and hands
-    /// all on.
+    /// Takes out the records that go, writes the tables and the head of the others, and flushes the
+    /// store.
     fn finish_store(&mut self) -> Result<(), MakeFault>
         ensures whole { OnOk result (IsUsable self.old) }
         ensures file { (rs : List KeyValue) → Holds self.old rs
@@ -186,13 +187,14 @@ impl<S: Store, L: Width> Maker<S, L> {
         finish::<S, L>(self.alloc, &mut self.store, &self.roll)
     }
 
-    /// Finishes the file of its records, and hands the store over, which holds that file alone and
-    /// has handed it on to what holds its bytes. Records that go are taken out first, by one pass.
+    /// Finishes the file of the maker's records, and returns the store. The store holds that file
+    /// alone, and has forwarded it to the medium that holds its bytes. Records that go are taken
+    /// out first, by one pass.
     ///
-    /// All memory is taken before a byte of the tables is written, and the head is written last.
-    /// The maker is returned if that failed. `NoMemory`: a pass was made if records were to go, and
-    /// no more. `Writing`: the store failed; amid the pass that breaks the maker, else it holds
-    /// what it held. `Broken`: an earlier call broke the maker.
+    /// All memory is taken before a byte of the tables is written, and the head is written last. If
+    /// that fails, the maker is returned. `NoMemory`: a pass was made if records were to go, and no
+    /// more. `Writing`: the store failed; amid the pass that breaks the maker, else the maker holds
+    /// the records that it held. `Broken`: an earlier call broke the maker.
     pub fn finish(mut self) -> Result<S, Unfinished<S, L>>
         ensures whole { IfOk result (λ _. IsUsable self) }
         ensures file { (rs : List KeyValue) → Holds self rs

@@ -13,10 +13,10 @@ use crate::roll::Roll;
 use cdb_form::Width;
 use cdb_store::Store;
 
-/// The last of the first `end` records that has a key and does not go.
+/// Returns the last of the first `end` records that has a key and does not go.
 ///
-/// Nothing is written, and no memory is taken. `Failed`: the store failed. `Foreign`: it gave back
-/// other bytes than were written. Inlined, since most looks meet no record of the number.
+/// It writes nothing and takes no memory. `Failed`: the store failed. `Foreign`: it gave back other
+/// bytes than were written. Inlined, since most looks meet no record of the number.
 #[inline(always)]
 pub(crate) fn last_with_key<S: Store, L: Width>(
     store: &mut S,
@@ -49,9 +49,9 @@ pub(crate) fn last_with_key<S: Store, L: Width>(
     Ok(None)
 }
 
-/// Leaves the records of a key that do not go noted as found, and no others.
+/// Notes as found the records of a key that do not go, and no others.
 ///
-/// The faults are those of `last_with_key`. After one some may be noted.
+/// It fails as `last_with_key` does. After a fault some of the records may be noted.
 pub(crate) fn find<S: Store, L: Width>(
     store: &mut S,
     roll: &mut Roll<L>,

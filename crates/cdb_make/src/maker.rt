@@ -13,34 +13,35 @@ use cdb_form::{Width, head_size, pair_size};
 use cdb_store::{MakeFault, Store};
 use std::alloc::Global;
 
-/// What a maker counts.
+/// The counts of a maker.
 #[derive(Clone, Copy)]
 pub(crate) struct Counts {
-    /// The number of records it holds.
+    /// The number of records that the maker holds.
     pub(crate) count: u64,
-    /// The number of bytes that their file would have.
+    /// The number of bytes that the file of the maker's records would have.
     pub(crate) size: u64,
 }
 
 /// Makes a database in a store: each record is written as it is put.
 ///
-/// The store holds the records one after another, from the end of the head on. Of each the maker
-/// keeps the hash of its key and its place: 8 bytes, or 12 if words are wide. If a look came before
-/// the first, it keeps a tag of its key too, of 4 bytes, and once one is to go, a mark of one byte.
-/// Of the bytes of all records at most half, and 2 MiB, are of records that go with a later pass.
+/// The store holds the records one after another, starting at the end of the head. For each record
+/// the maker keeps its key's hash and its place: 8 bytes, or 12 if words are wide. If a look, or an
+/// append to a lazy maker, came before the first record, the maker also keeps a tag of 4 bytes for
+/// each key, and once a record is to go, a mark of one byte for each record. Records that go with a
+/// later pass have at most half of all records' bytes and 2 MiB more.
 #[derive(Drop)]
 pub struct Maker<S: Store, L: Width> {
     pub(crate) alloc: Global,
     pub(crate) store: S,
     pub(crate) roll: Roll<L>,
-    /// The greatest size that the file of all records may have, those that go too.
+    /// The greatest size that the file of all records may have, with those that go.
     pub(crate) limit: u64,
-    /// Records that are taken out stay on the store until a pass is due.
+    /// True if records that are taken out stay on the store until a pass is due.
     pub(crate) lazy: bool,
-    /// A fault amid a move left the records torn, or the store gave back other bytes than were
-    /// written.
+    /// True if a fault amid a move left the records torn, or the store returned other bytes than
+    /// were written.
     pub(crate) broken: bool,
-    /// What it counted before the call that broke it.
+    /// The maker's counts before the call that broke it.
     pub(crate) counted: Counts,
     ghost inside: { roll.end ≤ S.size store },
     ghost within: { roll.end + 4 * L.WORD * length roll.hashes.items ≤ limit },
@@ -53,7 +54,7 @@ pub struct Maker<S: Store, L: Width> {
 impl<S: Store, L: Width> Maker<S, L> {
     ghost use Rattle.cdb_make.specs.Views.Maker.{record_in, IsCandidate, Adds, AddFails, Stays, Compacts, Exchanges, Follows, HasNotFailed, FailsExchanging, HasStoreFailed, SameCounts, TellsCounts, told_count, told_size};
 
-    /// One more record, after the others.
+    /// Adds a record after the others.
     ///
     /// `NoMemory`: nothing was written. `Writing`: the store failed. The records are what they
     /// were.
@@ -85,7 +86,7 @@ impl<S: Store, L: Width> Maker<S, L> {
         Ok(())
     }
 
-    /// Takes the records that go out of the store and of the roll. It takes no memory.
+    /// Removes the records that go from the store and from the roll. It takes no memory.
     ///
     /// `Writing`: the store failed, and the maker is broken.
     #[inline(never)]
@@ -121,10 +122,11 @@ impl<S: Store, L: Width> Maker<S, L> {
         Ok(())
     }
 
-    /// Takes out the records that go and those that a look for the number has found, which are
-    /// some, and adds one after the others. There is room for it.
+    /// Takes out the records that go and those that a look for the number has found, and adds one
+    /// after the others. At least one record is taken out, and there is room for the new one.
     ///
-    /// `Writing`: the store failed. Amid the pass that breaks the maker, else the records are gone.
+    /// `Writing`: the store failed. If it failed amid the pass, the maker is broken, else those
+    /// records are gone.
     #[inline(never)]
     pub(crate) fn exchange(&mut self, candidate: Candidate<'_>) -> Result<(), MakeFault>
         requires candidate { IsCandidate self.old.roll candidate }

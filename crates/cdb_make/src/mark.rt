@@ -2,14 +2,14 @@
 ghost use Rattle.std.specs.Prelude.{◌≡◌, ℕ, ◌<◌, ◌≤◌, true, false, length, get_or};
 ghost use Rattle.cdb_make.specs.Spans.{is_gone, is_found, gone_of, found_of, all_marks};
 
-/// What becomes of a record.
+/// The mark of a record: whether it stays or goes.
 #[derive(Clone, Copy, Debug, PartialEq, Eq)]
 pub(crate) enum Mark {
-    /// It stays.
+    /// The record stays.
     Stays,
-    /// It stays, and a look has found it.
+    /// The record stays, and a look has found it.
     Found,
-    /// It goes with the next pass.
+    /// The record goes with the next pass.
     Gone,
 }
 
@@ -25,7 +25,7 @@ impl Mark {
         }
     }
 
-    /// Returns true if a look has found it.
+    /// Returns true if a look has found the record.
     #[inline(always)]
     pub(crate) fn is_found(self) -> bool
         ensures { result ≡ is_found self }
@@ -37,7 +37,7 @@ impl Mark {
     }
 }
 
-/// Returns true if a record of some goes.
+/// Returns true if record `n` goes.
 #[inline(always)]
 pub(crate) fn is_gone_at(marks: &[Mark], n: usize) -> bool
     requires { n < length marks.now }
@@ -46,7 +46,7 @@ pub(crate) fn is_gone_at(marks: &[Mark], n: usize) -> bool
     marks[n].is_gone()
 }
 
-/// Returns true if a record goes of so many, of which those past the marks stay.
+/// Returns true if record `n` goes. Records past the marks stay.
 #[inline(always)]
 pub(crate) fn is_gone_of_all(marks: &[Mark], n: usize) -> bool
     ensures { (count : ℕ) → length marks.now ≤ count → n < count
@@ -55,7 +55,7 @@ pub(crate) fn is_gone_of_all(marks: &[Mark], n: usize) -> bool
     n < marks.len() && is_gone_at(marks, n)
 }
 
-/// Returns true if a look has found a record of some.
+/// Returns true if a look has found record `n`.
 #[inline(always)]
 pub(crate) fn is_found_at(marks: &[Mark], n: usize) -> bool
     requires { n < length marks.now }

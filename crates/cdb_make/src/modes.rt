@@ -15,8 +15,8 @@ use cdb_store::{MakeFault, Store};
 impl<S: Store, L: Width> Maker<S, L> {
     ghost use Rattle.cdb_make.specs.Views.Maker.{Meets, FailsLooking, Puts, FailsPutting, Follows, HasNotFailed, SameCounts, Steps};
 
-    /// Looks at the key of a record that is to be put, and answers what the put will answer unless
-    /// it fails. The records that are to be taken out are noted as found, and no others.
+    /// Looks at the key of a record that is to be put, and returns the answer of the put unless it
+    /// fails. The records that are to be taken out are noted as found, and no others.
     #[inline(always)]
     fn meet(&mut self, mode: Mode, sought: u32, key: &[u8]) -> Result<Put, MakeFault>
         requires { IsSought self.old.roll key.now sought }

@@ -18,12 +18,12 @@ fn is_wide<L: Width>() -> bool
     L::WORD == 8
 }
 
-/// Places, in the order in which they were pushed: 4 bytes each, or 8 if words are wide.
+/// Places, in the order of their pushes: 4 bytes each, or 8 if words are wide.
 #[derive(Drop)]
 pub(crate) struct Places<L: Width> {
     /// The lower half of each place.
     lows: Vec<u32>,
-    /// The upper half of each, if words are wide.
+    /// The upper half of each place, if words are wide.
     highs: Vec<u32>,
     width: PhantomData<L>,
     ghost narrow: { L.WORD ≡ 4 → highs.items ≡ [] },
@@ -35,7 +35,7 @@ pub(crate) struct Places<L: Width> {
 impl<L: Width> Places<L> {
     ghost use Rattle.cdb_make.specs.Views.Places.{places_in, places_room};
 
-    /// No places.
+    /// Returns an empty list of places.
     pub(crate) fn new(alloc: Global) -> Places<L>
         ensures { places_in result ≡ [] }
     {
@@ -46,7 +46,7 @@ impl<L: Width> Places<L> {
         }
     }
 
-    /// No places, with room for so many.
+    /// Returns an empty list of places, with room for `count`.
     pub(crate) fn with_room(alloc: Global, count: usize) -> Result<Places<L>, AllocError>
         ensures none { IfOk result (λ p. places_in p ≡ []) }
         ensures room { IfOk result (λ p. count ≤ places_room p) }
@@ -59,14 +59,14 @@ impl<L: Width> Places<L> {
         })
     }
 
-    /// Returns their number.
+    /// Returns the number of places.
     pub(crate) fn len(&self) -> usize
         ensures { result ≡ length (places_in self.now) }
     {
         self.lows.len()
     }
 
-    /// One of them.
+    /// Returns place `n`.
     pub(crate) fn at(&self, n: usize) -> u64
         requires { n < length (places_in self.now) }
         ensures at { result ≡ get_or (places_in self.now) n result }
@@ -80,7 +80,7 @@ impl<L: Width> Places<L> {
         }
     }
 
-    /// So many there can be before they take memory.
+    /// Returns the number of places that there can be before they take memory.
     pub(crate) fn room(&self) -> usize
         ensures { result ≡ places_room self.now }
     {
@@ -91,7 +91,7 @@ impl<L: Width> Places<L> {
         }
     }
 
-    /// Makes room for one more. If memory is refused, they stay.
+    /// Makes room for one more place. If an allocation fails, the places stay.
     #[inline(always)]
     pub(crate) fn reserve(&mut self) -> Result<(), AllocError>
         ensures places { places_in self.new ≡ places_in self.old }
@@ -107,7 +107,7 @@ impl<L: Width> Places<L> {
         }
     }
 
-    /// One more, for which there is room.
+    /// Adds a place. There is room for it.
     pub(crate) fn push(&mut self, place: u64)
         requires room { length (places_in self.old) < places_room self.old }
         requires fits { place ≤ L.TOP }
@@ -122,7 +122,7 @@ impl<L: Width> Places<L> {
         }
     }
 
-    /// Another place in the place of one.
+    /// Replaces place `n` by another one.
     pub(crate) fn set(&mut self, n: usize, place: u64)
         requires within { n < length (places_in self.old) }
         requires fits { place ≤ L.TOP }
@@ -137,7 +137,7 @@ impl<L: Width> Places<L> {
         }
     }
 
-    /// Leaves the first `n` of them, or all if they are fewer. The room stays.
+    /// Leaves the first `n` places, or all if they are fewer. The room stays.
     pub(crate) fn truncate(&mut self, n: usize)
         ensures places { places_in self.new ≡ take n (places_in self.old) }
         ensures room { places_room self.new ≡ places_room self.old }

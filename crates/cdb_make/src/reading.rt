@@ -1,4 +1,4 @@
-// What a maker says of its records, and its looks at a key.
+// The answers of a maker about its records, and its looks at a key.
 ghost use Rattle.std.specs.Prelude.{◌≡◌, ℕ, ◌+◌, ◌≤◌, true, false, List, length, IfOk, IfErr, OnOk};
 ghost use Rattle.cdb_form.specs.Format.{file_size, KeyValue};
 ghost use Rattle.cdb_make.specs.Chains.{second_hash, NoNewImage};
@@ -14,7 +14,7 @@ use cdb_store::{MakeFault, Store};
 impl<S: Store, L: Width> Maker<S, L> {
     ghost use Rattle.cdb_make.specs.Views.Maker.{Holds, Rests, FailsLooking, Seeks, HasNotFailed, told_count, told_size, Looks, Follows, SameCounts, WritesNothing};
 
-    /// Returns the number of records it holds.
+    /// Returns the number of records that the maker holds.
     ///
     /// In a broken maker it is what it was before the call that broke it.
     pub fn count(&self) -> u64
@@ -29,7 +29,7 @@ impl<S: Store, L: Width> Maker<S, L> {
         }
     }
 
-    /// Returns the number of bytes that the file of its records would have.
+    /// Returns the number of bytes that the file of the maker's records would have.
     ///
     /// In a broken maker it is what it was before the call that broke it.
     pub fn size(&self) -> u64
@@ -44,22 +44,22 @@ impl<S: Store, L: Width> Maker<S, L> {
         self.roll.left_end() + 2 * pair_size::<L>() as u64 * self.roll.left_count()
     }
 
-    /// Returns true if an earlier call broke it, or found that its store gave back other bytes than
-    /// were written. Then every call that can fail answers `Broken`.
+    /// Returns true if an earlier call broke the maker, or found that its store returned other
+    /// bytes than were written. Then every call that can fail returns `Broken`.
     pub fn is_broken(&self) -> bool
         ensures { result ≡ self.now.broken }
     {
         self.broken
     }
 
-    /// Its store, to read how long it is or how much was written.
+    /// Returns the maker's store, to read how long it is or how much was written.
     pub fn store(&self) -> &S
         ensures { result.now ≡ self.now.store }
     {
         &self.store
     }
 
-    /// What it counts.
+    /// Returns the maker's counts.
     pub(crate) fn counts(&self) -> Counts
         ensures count { result.count ≡ told_count self.now }
         ensures size { result.size ≡ told_size self.now }
@@ -71,8 +71,8 @@ impl<S: Store, L: Width> Maker<S, L> {
         }
     }
 
-    /// Why a look failed. If the store gave back other bytes than were written, the maker is
-    /// broken from then on.
+    /// Returns the fault of a look that failed. If the store returned other bytes than were
+    /// written, it breaks the maker.
     fn failed_look(&mut self, fault: LookFault) -> MakeFault
         requires { self.old.broken ≡ false }
         ensures fault { result ≡ look_fault fault }
@@ -113,9 +113,9 @@ impl<S: Store, L: Width> Maker<S, L> {
         self.look(sought, key)
     }
 
-    /// Notes the records of a key that do not go as found, and answers how many they are.
+    /// Notes as found the records of a key that do not go, and returns their number.
     ///
-    /// The faults are those of `exists`.
+    /// It fails as `exists` does.
     #[inline(always)]
     pub(crate) fn seek(&mut self, sought: u32, key: &[u8]) -> Result<u64, MakeFault>
         requires { IsSought self.old.roll key.now sought }
@@ -136,8 +136,8 @@ impl<S: Store, L: Width> Maker<S, L> {
         }
     }
 
-    /// Returns true if some record has a key of this number, as `exists` says it. It leaves no
-    /// record noted as found.
+    /// Returns true if some record has a key, as `exists` does. `sought` is the key's number. It
+    /// leaves no record noted as found.
     #[inline(always)]
     pub(crate) fn look(&mut self, sought: u32, key: &[u8]) -> Result<bool, MakeFault>
         requires { IsSought self.old.roll key.now sought }

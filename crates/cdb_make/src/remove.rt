@@ -13,8 +13,8 @@ const LEAST: u64 = 4_194_304;
 impl<S: Store, L: Width> Maker<S, L> {
     ghost use Rattle.cdb_make.specs.Views.Maker.{Removes, FailsRemoving, Follows, TakesOut, Tears, CompactsAll, FailsCompactingAll, HasNotFailed, SameCounts};
 
-    /// Returns true if a pass frees more bytes than it moves: those of the records that go and that
-    /// were found are more than the others, and 4 MiB.
+    /// Returns true if a pass frees more bytes than it moves: the records that go and those that
+    /// were found have over 4 MiB more bytes than the others.
     fn is_due(&self) -> bool
         ensures due { result ≡ true → self.now.roll.end + 4194304
             < 2 * (self.now.roll.gone.size + self.now.roll.found.size) }
@@ -61,7 +61,7 @@ impl<S: Store, L: Width> Maker<S, L> {
         self.pass()
     }
 
-    /// Removes every record of a key, and answers how many they were.
+    /// Removes every record of a key, and returns their number.
     ///
     /// It takes no memory. `Lookup`: the store failed while it was read, and no record has gone.
     /// `Writing`: it failed amid a pass, and the maker is broken. `Broken`: an earlier call broke
@@ -82,7 +82,7 @@ impl<S: Store, L: Width> Maker<S, L> {
         Ok(taken)
     }
 
-    /// Takes all records that go out by one pass. Then its store has the others and no more.
+    /// Takes out all records that go, by one pass. Then the store has the others and no more.
     ///
     /// Each byte after the first gap moves once, however many records go, and no memory is taken.
     /// `Writing`: the store failed amid the pass, and the maker is broken. `Broken`: an earlier

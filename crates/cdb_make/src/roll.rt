@@ -1,4 +1,4 @@
-// What is noted of the records on a store.
+// The notes about the records on a store.
 ghost use Rattle.std.specs.Prelude.{◌≡◌, ℕ, ◌+◌, ◌-◌, ◌<◌, ◌≤◌, ◌^◌, ◌⊎◌, List, Bool, [], ◌∷◌, ◌++◌, true, false, get_or, slice_set, take, length, min, cond, vec_capacity, OnOk, OnErr};
 ghost use Rattle.cdb_form.specs.Format.{head_size, key_hash};
 ghost use Rattle.cdb_make.specs.Chains.{second_hash, searched_by, AreChained, FindsLast, Has};
@@ -16,15 +16,15 @@ use cdb_form::{Width, hash, head_size};
 use std::alloc::{AllocError, Global};
 use std::marker::PhantomData;
 
-/// Some records of a roll.
+/// Some records of a roll, picked by a look or for a pass.
 #[derive(Clone, Copy)]
 pub(crate) struct Picked {
-    /// The number of the first of them. If there are none, it is past all, however many records
-    /// follow.
+    /// The number of the first picked record. If there is none, it is past all, however many
+    /// records follow.
     pub(crate) first: usize,
-    /// Their number.
+    /// The number of picked records.
     pub(crate) count: u64,
-    /// The number of bytes they have.
+    /// The number of bytes of the picked records.
     pub(crate) size: u64,
 }
 
@@ -41,7 +41,7 @@ fn none() -> Picked
     }
 }
 
-/// Leaves the records from `from` on as if no look had found them.
+/// Leaves the records at and after `from` as if no look had found them.
 fn put_each_back(marks: &mut [Mark], from: usize)
     requires { from ≤ length marks.old }
     ensures back { IsPutBackFrom from (length marks.old) marks.old marks.new }
@@ -54,7 +54,8 @@ fn put_each_back(marks: &mut [Mark], from: usize)
     }
 }
 
-/// Leaves the marks of the records before `first`, which stay. So the others have none, and stay.
+/// Leaves the marks of the records before `first`, which stay. The others have no marks then, and
+/// so they stay.
 fn compact_marks(marks: &mut Vec<Mark>, first: usize)
     requires { (k : ℕ) → k < first → get_or marks.old.items k Gone ≡ Stays }
     ensures stay { (count k : ℕ) → first ≤ count → k < count
@@ -66,8 +67,8 @@ fn compact_marks(marks: &mut Vec<Mark>, first: usize)
     marks.truncate(first);
 }
 
-/// Makes room for a mark of each record if there is none for one more than so many: for as many as
-/// there may be. If memory is refused, nothing has changed.
+/// Makes room for `most` marks, if there is no room for more than `count`. If an allocation fails,
+/// nothing has changed.
 fn reserve_marks(marks: &mut Vec<Mark>, count: usize, most: usize) -> Result<(), AllocError>
     requires few { length marks.old.items ≤ count }
     requires more { count < most }
@@ -88,7 +89,8 @@ fn reserve_marks(marks: &mut Vec<Mark>, count: usize, most: usize) -> Result<(),
     marks.reserve_exact(most - marks.len())
 }
 
-/// Marks for so many records, for which there is room: those that have none so far stay.
+/// Gives each of the first `count` records a mark: those that have none so far stay. There is room
+/// for the marks.
 #[inline(always)]
 fn mark_each(marks: &mut Vec<Mark>, count: usize)
     requires few { length marks.old.items ≤ count }
@@ -101,7 +103,8 @@ fn mark_each(marks: &mut Vec<Mark>, count: usize)
     }
 }
 
-/// The hash of each record's key and where it lies, in the order of the file, and which records go.
+/// The hash of each record's key and the record's place, in the order of the file, and the records
+/// that go.
 ///
 /// If a look or an append of a lazy maker came before the first record, each has a tag too: then
 /// keys that all have one hash are found as fast as others.
@@ -111,21 +114,21 @@ pub(crate) struct Roll<L: Width> {
     pub(crate) hashes: Vec<u32>,
     /// The second hash of each record's key, if they are tagged.
     pub(crate) tags: Vec<u32>,
-    /// Each record has a tag, by which it is found, and not by its hash.
+    /// True if each record has a tag, and is found by it and not by its hash.
     pub(crate) tagged: bool,
-    /// Where each record lies, in bytes from the file's start.
+    /// The place of each record, in bytes from the file's start.
     pub(crate) places: Places<L>,
-    /// What becomes of each. Those past the marks stay: a maker that only adds makes none.
+    /// The mark of each record. Records past the marks stay: a maker that only adds makes none.
     pub(crate) marks: Vec<Mark>,
-    /// Those that stay, by their tags or their hashes.
+    /// The records that stay, by their tags or their hashes.
     pub(crate) chains: Chains,
-    /// Those that go with the next pass.
+    /// The records that go with the next pass.
     pub(crate) gone: Picked,
-    /// Those that the last look has found.
+    /// The records that the last look has found.
     pub(crate) found: Picked,
-    /// Where the records end.
+    /// The place after the last record.
     pub(crate) end: u64,
-    /// So many records there can be before memory is taken.
+    /// The number of records that there can be before memory is taken.
     pub(crate) most: usize,
     pub(crate) width: PhantomData<L>,
     ghost paired: { length (places_in places) ≡ length hashes.items },
@@ -174,35 +177,36 @@ impl<L: Width> Roll<L> {
         }
     }
 
-    /// Returns the number of records there are, those that go too.
+    /// Returns the number of all records, with those that go.
     pub(crate) fn len(&self) -> usize
         ensures { result ≡ length self.now.hashes.items }
     {
         self.hashes.len()
     }
 
-    /// Where the records would end without those that go.
+    /// Returns the place where the records would end without those that go.
     pub(crate) fn left_end(&self) -> u64
         ensures { result + self.now.gone.size ≡ self.now.end }
     {
         self.end - self.gone.size
     }
 
-    /// Returns the number of records there are without those that go.
+    /// Returns the number of records without those that go.
     pub(crate) fn left_count(&self) -> u64
         ensures { result + self.now.gone.count ≡ length self.now.hashes.items }
     {
         self.len() as u64 - self.gone.count
     }
 
-    /// Where the records would end without those that go and those that were found.
+    /// Returns the place where the records would end without those that go and those that were
+    /// found.
     pub(crate) fn kept_end(&self) -> u64
         ensures { result + (self.now.gone.size + self.now.found.size) ≡ self.now.end }
     {
         self.end - self.gone.size - self.found.size
     }
 
-    /// Returns the number of records there are without those that go and those that were found.
+    /// Returns the number of records without those that go and those that were found.
     pub(crate) fn kept_count(&self) -> u64
         ensures { result + (self.now.gone.count + self.now.found.count)
             ≡ length self.now.hashes.items }
@@ -218,14 +222,14 @@ impl<L: Width> Roll<L> {
         self.gone.count == 0 && self.found.count == 0
     }
 
-    /// The number of the first record that goes, or of all records.
+    /// Returns the number of the first record that goes, or the number of records if none goes.
     pub(crate) fn first_gone(&self) -> usize
         ensures { IsFirstMarked (gone_of (marks_in self.now)) result }
     {
         self.gone.first.min(self.len())
     }
 
-    /// The number by which a look finds the records of a key. If none was noted before, the look
+    /// Returns the number that a look for a key searches. If no record was noted before, the look
     /// begins the tags. `hash` is the key's hash.
     #[inline(always)]
     pub(crate) fn sought_by_look(&self, hash: u32, key: &[u8]) -> u32
@@ -239,7 +243,7 @@ impl<L: Width> Roll<L> {
         }
     }
 
-    /// Has the records tagged from now on if that is wanted, unless some were noted before.
+    /// Begins the tags of the records if that is wanted, unless some records were noted before.
     #[inline(always)]
     pub(crate) fn tag(&mut self, wanted: bool)
         ensures sought { wanted ≡ true → (key : List ℕ) (n : ℕ) → IsSought self.old key n
@@ -261,7 +265,7 @@ impl<L: Width> Roll<L> {
         }
     }
 
-    /// Has a mark for each record. It takes no memory.
+    /// Gives each record a mark. It takes no memory.
     #[inline(always)]
     pub(crate) fn mark_all(&mut self)
         ensures marks { self.new.marks.items ≡ marks_in self.old }
@@ -280,8 +284,8 @@ impl<L: Width> Roll<L> {
         mark_each(&mut self.marks, self.hashes.len());
     }
 
-    /// The last of the first `end` records that has a number and does not go. If `end` is the
-    /// number of such a record, the search goes on from it.
+    /// Returns the last of the first `end` records that has a number and does not go. If `end` is
+    /// the number of such a record, the search goes on from it.
     #[inline(always)]
     pub(crate) fn last(&self, sought: u32, end: usize) -> Option<usize>
         requires { end ≤ length self.now.hashes.items }
@@ -291,7 +295,7 @@ impl<L: Width> Roll<L> {
         self.chains.last(searched, &self.marks, sought, end)
     }
 
-    /// So many records there can be before a column takes memory.
+    /// Returns the number of records that there can be before a column takes memory.
     fn room(&self) -> usize
         ensures hashes { result ≤ vec_capacity self.now.hashes }
         ensures tags { self.now.tagged ≡ true → result ≤ vec_capacity self.now.tags }
@@ -308,9 +312,9 @@ impl<L: Width> Roll<L> {
         }
     }
 
-    /// Makes room in each column for one more record, and in the chains for as many as the columns
-    /// have room for. The chains stay. If memory is refused, no record has changed, and `most` says
-    /// for how many the columns have room.
+    /// Makes room in each column for one more record, and in the chains for all records that the
+    /// columns have room for. The chains stay. If an allocation fails, no record has changed, and
+    /// the columns have room for `most` records.
     #[cold]
     #[inline(never)]
     fn grow(&mut self) -> Result<(), AllocError>
@@ -335,8 +339,8 @@ impl<L: Width> Roll<L> {
         self.chains.reserve(self.most)
     }
 
-    /// Makes room for one more record, and in the chains too if memory is given for them. The chains
-    /// stay. If memory is refused, nothing has changed.
+    /// Makes room for one more record, and in the chains too if memory allows. The chains stay. If
+    /// an allocation for the record fails, nothing has changed.
     #[inline(always)]
     pub(crate) fn reserve(&mut self) -> Result<(), AllocError>
         ensures room { OnOk result (HasRoom self.new) }
@@ -354,15 +358,15 @@ impl<L: Width> Roll<L> {
             return Ok(());
         }
         let grown = self.grow();
-        // The chains are a help alone.
+        // The chains only make looks faster.
         if self.hashes.len() < self.most {
             return Ok(());
         }
         grown
     }
 
-    /// Notes one more record, of so many bytes, for which there is room. Its tag is noted if the
-    /// others have one, and if all of them are in chains, it is put into its own.
+    /// Notes one more record, of `size` bytes. There is room for it. If the records are tagged, its
+    /// tag is noted, and it is linked into its chain if all others are and the chains have room.
     #[inline(always)]
     pub(crate) fn push(&mut self, hash: u32, tag: u32, size: u64)
         requires room { HasRoom self.old }
@@ -392,7 +396,7 @@ impl<L: Width> Roll<L> {
         self.chains.push(self.tagged, number, tag);
     }
 
-    /// Takes the records that go out.
+    /// Removes the records that go.
     pub(crate) fn compact(&mut self)
         ensures hashes { self.new.hashes.items ≡ left (gone_of (marks_in self.old)) self.old.hashes.items }
         ensures searched { searched self.new ≡ left (gone_of (marks_in self.old)) (searched self.old) }
@@ -427,7 +431,8 @@ impl<L: Width> Roll<L> {
         self.end = kept.end;
     }
 
-    /// Notes that a look has found a record that does not go, before those that it has found.
+    /// Notes that a look has found record `n`. It does not go, and lies before all that the look
+    /// has found so far.
     pub(crate) fn find(&mut self, n: usize)
         requires within { n < length self.old.hashes.items }
         requires stays { get_or (gone_of (marks_in self.old)) n true ≡ false }
@@ -452,7 +457,7 @@ impl<L: Width> Roll<L> {
         };
     }
 
-    /// Marks that the records go that a look for a number has found.
+    /// Marks as gone the records that a look for a number has found.
     pub(crate) fn take(&mut self, sought: u32)
         requires hash { HaveHash sought (searched self.old) (marks_in self.old) }
         ensures same { SameRecords self.old self.new }
@@ -463,7 +468,7 @@ impl<L: Width> Roll<L> {
         ensures size { self.new.gone.size ≡ self.old.gone.size + self.old.found.size }
         ensures linked { length self.new.chains.before.items ≡ length self.old.chains.before.items }
     {
-        // Else a record that is put would take as long as all those before it that are in no chain.
+        // Otherwise each put would take time for all earlier records that are in no chain.
         if self.found.count == 0 {
             return;
         }
@@ -499,7 +504,7 @@ impl<L: Width> Roll<L> {
         self.found = none();
     }
 
-    /// Puts the records into chains before a look, as many as there is room for. It takes no
+    /// Links the records into chains before a look, until there is no more room. It takes no
     /// memory. If no record was noted so far, all that come are tagged.
     #[inline(always)]
     pub(crate) fn link(&mut self)
@@ -520,8 +525,8 @@ impl<L: Width> Roll<L> {
         self.chains.link_all(searched, &self.marks);
     }
 
-    /// Lets the chains go, and their memory. The next growth makes room for them anew; until then
-    /// looks compare the records one by one.
+    /// Drops the chains, and frees their memory. The next growth makes room for them anew; until
+    /// then looks compare the records one by one.
     pub(crate) fn unchain(&mut self, alloc: Global)
         ensures same { SameRecords self.old self.new }
         ensures marks { marks_in self.new ≡ marks_in self.old }

@@ -1,4 +1,4 @@
-// The tags of keys: a second hash, that keys of one hash do not share.
+// The tags of keys: a second hash, which keys of one hash rarely share.
 ghost use Rattle.std.specs.Prelude.{◌≡◌, ◌<◌, ◌≤◌, ◌∷◌, ◌++◌, [], ℕ, List, true, fold, length, take, cond, vec_capacity, OnOk, OnErr};
 ghost use Rattle.cdb_make.specs.Spans.{gone_of, IsFirstMarked, left};
 ghost use Rattle.cdb_make.specs.Chains.{tag_step, second_hash, searched_by};
@@ -21,8 +21,8 @@ fn tag_each(tag: u32, bytes: &[u8]) -> u32
     tag
 }
 
-/// The second hash of a key. Keys that have one cdb hash, as a text may have by intent, differ in
-/// it.
+/// The second hash of a key. Keys that have one cdb hash, as a text may have by intent, mostly
+/// differ in it.
 pub(crate) fn second_hash(key: &[u8]) -> u32
     ensures { result ≡ second_hash key.now }
 {
@@ -34,7 +34,7 @@ pub(crate) fn second_hash(key: &[u8]) -> u32
     tag_each(tag, rest)
 }
 
-/// The numbers by which entries are found: their tags if they have some, else their hashes.
+/// Returns the numbers that looks search: the entries' tags if there are tags, else their hashes.
 #[inline(always)]
 pub(crate) fn searched<'a>(tagged: bool, tags: &'a [u32], hashes: &'a [u32]) -> &'a [u32]
     ensures { result.now ≡ searched_by tagged tags.now hashes.now }
@@ -42,7 +42,7 @@ pub(crate) fn searched<'a>(tagged: bool, tags: &'a [u32], hashes: &'a [u32]) -> 
     if tagged { tags } else { hashes }
 }
 
-/// Makes room for one more tag, if there are tags. If memory is refused, nothing has changed.
+/// Makes room for one more tag, if there are tags. If an allocation fails, nothing has changed.
 #[inline(always)]
 pub(crate) fn reserve_tag(tagged: bool, tags: &mut Vec<u32>) -> Result<(), AllocError>
     ensures items { tags.new.items ≡ tags.old.items }
@@ -56,7 +56,7 @@ pub(crate) fn reserve_tag(tagged: bool, tags: &mut Vec<u32>) -> Result<(), Alloc
     Ok(())
 }
 
-/// Notes one more tag, for which there is room, if there are tags.
+/// Notes one more tag, if there are tags. There is room for it.
 #[inline(always)]
 pub(crate) fn push_tag(tagged: bool, tags: &mut Vec<u32>, tag: u32)
     requires { tagged ≡ true → length tags.old.items < vec_capacity tags.old }
@@ -71,8 +71,8 @@ pub(crate) fn push_tag(tagged: bool, tags: &mut Vec<u32>, tag: u32)
     }
 }
 
-/// Leaves before all others the tag of each record that stays, and answers how many they are.
-/// `first` is the number of the first that goes, or of all.
+/// Moves the tag of each record that stays before all others, and returns the number of these.
+/// `first` is the number of the first record that goes, or the number of records if none goes.
 fn compact_each(tags: &mut [u32], marks: &[Mark], first: usize) -> usize
     requires long { length marks.now ≡ length tags.old }
     requires first { IsFirstMarked (gone_of marks.now) first }

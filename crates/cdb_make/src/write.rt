@@ -6,10 +6,10 @@ ghost use Rattle.cdb_make.specs.Views.Writing.{WritesBehind, WritesWithin};
 use cdb_form::{GREATEST_PAIR, Header, Width, pair_size, write_header};
 use cdb_store::{Store, StoreFault};
 
-/// Writes a record's header, key and value from `pos` on, one after another, as one write would:
-/// over what is there, and past the end.
+/// Writes a record's header, key and value at `pos`, one after another, as one write would: over
+/// the bytes that are there and past the end.
 ///
-/// `pos` is at most the store's length. The store's room is made first, so if memory is refused
+/// `pos` is at most the store's length. The store's room is made first, so if an allocation fails
 /// (`NoMemory`) nothing has changed. After `Device` the record's range may hold any bytes, and
 /// those outside of it stay.
 #[inline(always)]

@@ -17,7 +17,7 @@ pub(crate) fn counts_of<L: Width>(roll: &Roll<L>) -> [usize; 256]
     counts
 }
 
-/// The greatest of some counts.
+/// Returns the greatest of some counts.
 pub(crate) fn longest(counts: &[usize]) -> usize
     ensures most { All (λ count. count ≤ result) counts.now }
     ensures least { (most : ℕ) → All (λ count. count ≤ most) counts.now → result ≤ most }
@@ -29,7 +29,7 @@ pub(crate) fn longest(counts: &[usize]) -> usize
     most
 }
 
-/// The greatest of the counts of a table and of every 32nd from it on.
+/// Returns the greatest of the counts of table `n` and of every 32nd table after it.
 pub(crate) fn most_of(counts: &[usize], n: usize) -> usize
     requires long { length counts.now ≡ 256 }
     requires within { n < 32 }

@@ -17,8 +17,8 @@ use cdb_form::{Width, pair_size};
 use cdb_store::{MakeFault, Store, StoreFault};
 use std::alloc::Global;
 
-/// Writes the tables after the records up to `last`, cuts the store after them, and hands all on,
-/// so that the tables are stored before the head is. It takes no memory.
+/// Writes the tables after the records up to `last`, cuts the store after them, and flushes it, so
+/// that the tables are stored before the head is. It takes no memory.
 ///
 /// `Device`: the bytes of the records and before them stay.
 fn settle_tables<S: Store, L: Width>(

@@ -10,13 +10,15 @@ use cdb_form::{Width, table_number};
 use std::alloc::{AllocError, Global};
 use std::simd::prelude::*;
 
-/// So many tables are gathered at a time, and so many times. More at once would take more memory,
-/// and fewer more passes over all hashes.
+/// The number of tables that are gathered at a time. More would take more memory, and fewer would
+/// take more passes over all hashes.
 pub(crate) const TABLES: usize = 32;
 
+/// The number of times that tables are gathered, each by a pass over all hashes.
 pub(crate) const GROUPS: usize = 8;
 
-/// No entries of some tables, with room for those of the largest that each is used for.
+/// Returns an empty list for each table that is gathered at a time, with room for the largest table
+/// that the list is used for.
 pub(crate) fn room_for<L: Width>(
     alloc: Global,
     counts: &[usize],
@@ -43,7 +45,7 @@ fn clear<L: Width>(gathered: &mut [Gathered<L>])
     }
 }
 
-/// One entry more, of the table with this number among those that are gathered.
+/// Adds an entry to table `n` of those that are gathered.
 #[inline(always)]
 fn push<L: Width>(gathered: &mut [Gathered<L>], n: usize, hash: u32, place: u64)
     requires fits { place ≤ L.TOP }
@@ -57,8 +59,8 @@ fn push<L: Width>(gathered: &mut [Gathered<L>], n: usize, hash: u32, place: u64)
     gathered[n].push(hash, place);
 }
 
-/// Which of 16 hashes belong to a table or to so many more after it, one bit for each. Table 0
-/// follows table 255.
+/// Returns a bit for each of 16 hashes: 1 if it belongs to table `first` or to one of the `more`
+/// tables after it. Table 0 follows table 255.
 #[inline(always)]
 fn of_tables(hashes: u32x16, first: u8, more: u8) -> u64
     ensures { result ≡ mask_l (map (is_among first more) hashes) }
@@ -86,7 +88,7 @@ fn gather_one<L: Width>(gathered: &mut [Gathered<L>], roll: &Roll<L>, first: usi
     }
 }
 
-/// Gathers the entries of 16 records. Of these it visits only the records of the tables.
+/// Gathers the entries of 16 records. It visits only the records of the tables that are gathered.
 #[inline(always)]
 fn gather_sixteen<L: Width>(gathered: &mut [Gathered<L>], roll: &Roll<L>, first: usize, n: usize)
     requires within { first + length gathered.old ≤ 256 }
@@ -109,7 +111,8 @@ fn gather_sixteen<L: Width>(gathered: &mut [Gathered<L>], roll: &Roll<L>, first:
     }
 }
 
-/// Gathers the entries of a roll 16 records at a time, and answers how many it has looked at.
+/// Gathers the entries of a roll 16 records at a time, and returns the number of records it looked
+/// at.
 fn gather_sixteens<L: Width>(gathered: &mut [Gathered<L>], roll: &Roll<L>, first: usize) -> usize
     requires within { first + length gathered.old ≤ 256 }
     requires room { HaveRoomFor roll.now first gathered.old }
@@ -128,8 +131,8 @@ fn gather_sixteens<L: Width>(gathered: &mut [Gathered<L>], roll: &Roll<L>, first
     n
 }
 
-/// Gathers the entries of some tables, from the first of them on, in their order. It takes no
-/// memory.
+/// Gathers the entries of table `first` and the tables after it into a list each, in the order of
+/// the records. It takes no memory.
 pub(crate) fn gather<L: Width>(gathered: &mut [Gathered<L>], roll: &Roll<L>, first: usize)
     requires within { first + length gathered.old ≤ 256 }
     requires room { (k : ℕ) → k < length gathered.old

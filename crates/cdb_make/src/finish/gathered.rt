@@ -1,4 +1,4 @@
-// What is gathered of a table.
+// The entries that were gathered of a table.
 ghost use Rattle.std.specs.Prelude.{◌≡◌, ◌<◌, ◌≤◌, [], ◌∷◌, ◌++◌, length, get_or, vec_capacity, IfOk};
 ghost use Rattle.cdb_form.specs.Views.Pairs.{slot_pair, PairFits};
 ghost use Rattle.cdb_make.specs.Views.Places.{places_in, places_room};
@@ -20,7 +20,7 @@ pub(crate) struct Gathered<L: Width> {
 impl<L: Width> Gathered<L> {
     ghost use Rattle.cdb_make.specs.Tables.{gathered_in, gathered_room};
 
-    /// No entries, with room for so many.
+    /// Returns an empty list, with room for `count` entries.
     pub(crate) fn with_room(alloc: Global, count: usize) -> Result<Gathered<L>, AllocError>
         ensures none { IfOk result (λ g. gathered_in g ≡ []) }
         ensures room { IfOk result (λ g. count ≤ gathered_room g) }
@@ -31,14 +31,14 @@ impl<L: Width> Gathered<L> {
         })
     }
 
-    /// Returns the number of entries there are.
+    /// Returns the number of entries.
     pub(crate) fn len(&self) -> usize
         ensures { result ≡ length (gathered_in self.now) }
     {
         self.hashes.len()
     }
 
-    /// One of them.
+    /// Returns entry `n`.
     pub(crate) fn entry(&self, n: usize) -> Slot
         requires { n < length (gathered_in self.now) }
         ensures entry { slot_pair result ≡ get_or (gathered_in self.now) n (slot_pair result) }
@@ -58,7 +58,7 @@ impl<L: Width> Gathered<L> {
         self.places.truncate(0);
     }
 
-    /// One entry more, for which there is room.
+    /// Adds an entry. There is room for it.
     #[inline(always)]
     pub(crate) fn push(&mut self, hash: u32, place: u64)
         requires fits { place ≤ L.TOP }

@@ -9,7 +9,7 @@ ghost use Rattle.cdb_make.specs.Spans.{head_bytes};
 use cdb_form::{GREATEST_HEAD, Head, Pointer, Width, head_size, pair_size, write_head};
 use cdb_store::{Store, StoreFault};
 
-/// The pointers to the tables of so many entries each, the first of which begins at `end`.
+/// Returns the pointers to the tables, with `counts` entries each. The first table begins at `end`.
 fn head_of<L: Width>(counts: &[usize], end: u64) -> Head
     requires long { length counts.now ≡ 256 }
     requires limit { end + 4 * L.WORD * sum counts.now ≤ L.GREATEST }

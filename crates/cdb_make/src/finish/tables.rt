@@ -60,8 +60,8 @@ fn write_table<S: Store, L: Width>(
     store.write_at(place, bytes)
 }
 
-/// Writes one table after another from `start` on, each through the same bytes, and answers where
-/// the last ends. It takes no memory.
+/// Writes one table after another, the first at `start`, each through the same bytes, and returns
+/// the place after the last. It takes no memory.
 ///
 /// `Device`: the tables' bytes may be any, and those before and after them stay.
 fn write_group<S: Store, L: Width>(
@@ -104,8 +104,8 @@ fn write_group<S: Store, L: Width>(
     Ok(place)
 }
 
-/// Writes the tables of a roll one after another from `end` on. Some are gathered at a time, by a
-/// pass over its entries. It takes no memory.
+/// Writes the tables of a roll one after another, the first at `end`. It gathers some at a time, by
+/// a pass over the roll's entries. It takes no memory.
 ///
 /// `Device`: the tables' bytes may be any, and those before and after them stay.
 pub(crate) fn write_tables<S: Store, L: Width>(
