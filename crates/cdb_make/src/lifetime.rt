@@ -106,8 +106,8 @@ impl<S: Store, L: Width> Maker<S, L> {
     /// that is not finished is damaged. The store is flushed after this head, so no byte of a
     /// record is on the disk before it.
     ///
-    /// If that fails, the store is returned: after `NoMemory` it is as it was, and after `Writing`
-    /// it failed, and may hold anything.
+    /// If it fails, the store is returned: after `NoMemory` it is as it was, and after `Writing` it
+    /// failed, and may hold anything.
     pub fn new(alloc: Global, store: S, limit: u64) -> Result<Maker<S, L>, Refused<S>>
         requires head { head_size L.WORD ≤ limit }
         requires words { limit ≤ L.GREATEST }
@@ -192,9 +192,9 @@ impl<S: Store, L: Width> Maker<S, L> {
     /// out first, by one pass.
     ///
     /// All memory is taken before a byte of the tables is written, and the head is written last. If
-    /// that fails, the maker is returned. `NoMemory`: a pass was made if records were to go, and no
-    /// more. `Writing`: the store failed; amid the pass that breaks the maker, else the maker holds
-    /// the records that it held. `Broken`: an earlier call broke the maker.
+    /// the finish fails, the maker is returned. `NoMemory`: a pass was made if records were to go,
+    /// and no more. `Writing`: the store failed; amid the pass that breaks the maker, else the
+    /// maker holds the records that it held. `Broken`: an earlier call broke the maker.
     pub fn finish(mut self) -> Result<S, Unfinished<S, L>>
         ensures whole { IfOk result (λ _. IsUsable self) }
         ensures file { (rs : List KeyValue) → Holds self rs

@@ -27,8 +27,8 @@ pub(crate) struct Counts {
 /// The store holds the records one after another, starting at the end of the head. For each record
 /// the maker keeps its key's hash and its place: 8 bytes, or 12 if words are wide. If a look, or an
 /// append to a lazy maker, came before the first record, the maker also keeps a tag of 4 bytes for
-/// each key, and once a record is to go, a mark of one byte for each record. Records that go with a
-/// later pass have at most half of all records' bytes and 2 MiB more.
+/// each key. Once a record is to go, it keeps a mark of one byte for each record. Records that go
+/// with a later pass have at most half of all records' bytes and 2 MiB more.
 #[derive(Drop)]
 pub struct Maker<S: Store, L: Width> {
     pub(crate) alloc: Global,
@@ -86,7 +86,7 @@ impl<S: Store, L: Width> Maker<S, L> {
         Ok(())
     }
 
-    /// Removes the records that go from the store and from the roll. It takes no memory.
+    /// Removes from the store and the roll the records that go. It takes no memory.
     ///
     /// `Writing`: the store failed, and the maker is broken.
     #[inline(never)]
