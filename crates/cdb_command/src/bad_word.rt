@@ -136,7 +136,7 @@ fn end_met<'a>(waiting: Option<char>) -> WordFault<'a>
     }
 }
 
-/// The first letter or word that is no part of a command line.
+/// Returns the first letter or word that is no part of a command line.
 fn first_bad(words: &[String]) -> WordFault<'_>
     ensures { refused_in result ≡ first_bad no_values (map string_bytes words.entry.now) }
 {

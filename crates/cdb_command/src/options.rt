@@ -7,10 +7,10 @@ use cdb_form::Mode;
 pub struct MakeOptions {
     /// What is done with a record whose key is there already, unless the run is to stop there.
     pub mode: Mode,
-    /// True if such a record is reported.
+    /// True if a record whose key is there already is reported.
     pub warn: bool,
-    /// True if the run stops at the first such record and reports it. Each record is put by
-    /// `Insert` then, whatever the mode.
+    /// True if the run stops at the first record whose key is there already, and reports it. Each
+    /// record is put by `Insert` then, whatever the mode.
     pub stop: bool,
     /// The form of the inputs.
     pub style: Style,

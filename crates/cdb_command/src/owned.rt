@@ -5,14 +5,14 @@ ghost use Rattle.cdb_command.specs.Asked.{Gives};
 use crate::word_fault::WordFault;
 use std::alloc::Global;
 
-/// A text of its own.
+/// Returns a copy of a text.
 pub(crate) fn owned<'a>(alloc: Global, text: &str) -> Result<String, WordFault<'a>>
     ensures { Gives string_bytes result (Ok text.now) }
 {
     Ok(String::from_str(alloc, text)?)
 }
 
-/// A text of its own, if there is one.
+/// Returns a copy of a text, if there is one.
 pub(crate) fn owned_option<'a>(
     alloc: Global,
     text: Option<&str>,
@@ -25,7 +25,7 @@ pub(crate) fn owned_option<'a>(
     }
 }
 
-/// Texts of their own, in order.
+/// Returns copies of texts, in order.
 pub(crate) fn owned_all<'a>(alloc: Global, from: &[&str]) -> Result<Vec<String>, WordFault<'a>>
     ensures { Gives (λ v. map string_bytes v.items) result (Ok (map (λ s. s.now) from.now)) }
 {

@@ -10,7 +10,7 @@ use crate::letters::flag_letters;
 use clap::{Arg, ArgAction, Command};
 use std::alloc::{AllocError, Global};
 
-/// A letter without a value, which may come often.
+/// Returns a letter without a value, which may come often.
 fn flag<'a>(alloc: Global, id: &'a str, letter: char) -> Arg<'a>
     ensures rule { rule_of result ≡ flag_rule id.entry.now letter }
     ensures local { result.global ≡ false }
@@ -18,7 +18,7 @@ fn flag<'a>(alloc: Global, id: &'a str, letter: char) -> Arg<'a>
     Arg::new(alloc, id).short(letter).action(ArgAction::Count)
 }
 
-/// A letter with a value, which may come once.
+/// Returns a letter with a value, which may come once.
 fn option<'a>(alloc: Global, id: &'a str, letter: char) -> Arg<'a>
     ensures rule { rule_of result ≡ option_rule id.entry.now letter }
     ensures local { result.global ≡ false }
@@ -26,7 +26,7 @@ fn option<'a>(alloc: Global, id: &'a str, letter: char) -> Arg<'a>
     Arg::new(alloc, id).short(letter).action(ArgAction::Set)
 }
 
-/// Any number of names.
+/// Returns an argument for any number of names.
 fn names<'a>(alloc: Global) -> Arg<'a>
     ensures rule { rule_of result ≡ names_rule }
     ensures local { result.global ≡ false }
@@ -34,7 +34,7 @@ fn names<'a>(alloc: Global) -> Arg<'a>
     Arg::new(alloc, "names").num_args(0..)
 }
 
-/// The command with the letters that have no value.
+/// Returns the command with the letters that have no value.
 fn with_flags<'a>(alloc: Global, mut parser: Command<'a>) -> Result<Command<'a>, AllocError>
     ensures { IfOk result (λ r. app_of r ≡ with_rules (app_of parser.entry) flag_rules) }
 {
@@ -44,7 +44,7 @@ fn with_flags<'a>(alloc: Global, mut parser: Command<'a>) -> Result<Command<'a>,
     Ok(parser)
 }
 
-/// The command with the options that have values, and with names.
+/// Returns the command with the options that have values, and with names.
 fn with_values<'a>(alloc: Global, parser: Command<'a>) -> Result<Command<'a>, AllocError>
     ensures { IfOk result (λ r. app_of r ≡ with_rules (app_of parser.entry) value_rules) }
 {
@@ -54,7 +54,7 @@ fn with_values<'a>(alloc: Global, parser: Command<'a>) -> Result<Command<'a>, Al
     parser.arg(names(alloc))
 }
 
-/// A command of no letters, not of `clap`'s own for help and version either.
+/// Returns a command without letters, also without `clap`'s own for help and version.
 fn bare<'a>(alloc: Global) -> Command<'a>
     ensures { app_of result ≡ bare_app }
 {
@@ -63,7 +63,7 @@ fn bare<'a>(alloc: Global) -> Command<'a>
         .disable_version_flag(true)
 }
 
-/// The program's command line, for `clap`.
+/// Returns the program's command line, for `clap`.
 pub(crate) fn parser<'a>(alloc: Global) -> Result<Command<'a>, AllocError>
     ensures { IfOk result (λ r. app_of r ≡ cdb_app) }
 {

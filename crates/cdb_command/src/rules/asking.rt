@@ -16,14 +16,14 @@ use crate::rules::stray::without_stray;
 use crate::word_fault::{Lacking, WordFault};
 use std::alloc::Global;
 
-/// The file to be read.
+/// Returns the file to be read.
 fn input_of<'a>(alloc: Global, line: &Line<'a, '_>) -> Result<Option<String>, WordFault<'a>>
     ensures { Gives (option_map string_bytes) result (one_name (given_in line.now).names) }
 {
     owned_option(alloc, one_name(line.names)?)
 }
 
-/// A query of one key, of a value with a number or of all.
+/// Returns a query of one key, for a value with a number or for all.
 fn key_query_of<'a>(
     alloc: Global,
     line: &Line<'a, '_>,
@@ -41,7 +41,7 @@ fn key_query_of<'a>(
     })
 }
 
-/// A query of the keys that inputs give.
+/// Returns a query of the keys that inputs give.
 fn lookups_of<'a>(
     alloc: Global,
     line: &Line<'a, '_>,
@@ -59,7 +59,7 @@ fn lookups_of<'a>(
     })
 }
 
-/// A query, of one key or of those that inputs give.
+/// Returns a query, of one key or of the keys that inputs give.
 fn query_of<'a>(
     alloc: Global,
     line: &Line<'a, '_>,
@@ -74,7 +74,7 @@ fn query_of<'a>(
     }
 }
 
-/// A difference of two files.
+/// Returns a difference of two files.
 fn difference_of<'a>(alloc: Global, line: &Line<'a, '_>) -> Result<Command, WordFault<'a>>
     ensures { Gives asked_in result (difference_in (given_in line.now)) }
 {
@@ -86,7 +86,7 @@ fn difference_of<'a>(alloc: Global, line: &Line<'a, '_>) -> Result<Command, Word
     })
 }
 
-/// A create.
+/// Returns a create.
 fn create_of<'a>(alloc: Global, line: &Line<'a, '_>) -> Result<Command, WordFault<'a>>
     ensures { Gives asked_in result (create_in (given_in line.now)) }
 {
@@ -102,7 +102,7 @@ fn create_of<'a>(alloc: Global, line: &Line<'a, '_>) -> Result<Command, WordFaul
     })
 }
 
-/// The command of a letter, on a line without options that it does not take.
+/// Returns the command of a letter, on a line without options that the command does not take.
 fn command_of<'a>(
     alloc: Global,
     letter: Letter,
@@ -135,7 +135,7 @@ fn command_of<'a>(
     }
 }
 
-/// The command of a line, or the first of its faults.
+/// Returns the command of a line, or the first of its faults.
 pub(crate) fn asked_on<'a>(alloc: Global, line: &Line<'a, '_>) -> Result<Command, WordFault<'a>>
     ensures { Gives asked_in result (line_plan (given_in line.now)) }
 {

@@ -18,7 +18,7 @@ pub(crate) enum Letter {
     Difference,
 }
 
-/// The letter itself.
+/// Returns the letter itself.
 pub(crate) fn letter_code(letter: Letter) -> char
     ensures { result ≡ letter_code letter }
 {
@@ -33,7 +33,7 @@ pub(crate) fn letter_code(letter: Letter) -> char
     }
 }
 
-/// The commands in their order, and whether their letters are on a line.
+/// Returns the commands in their order, and whether their letters are on a line.
 fn commands_in(flags: Flags) -> [(bool, Letter); 7]
     ensures { result ≡ commands_in flags }
 {
@@ -48,8 +48,8 @@ fn commands_in(flags: Flags) -> [(bool, Letter); 7]
     ]
 }
 
-/// The one command whose letter is on a line. `NoCommand` if there is none, `TwoCommands` of the
-/// first two if there are several.
+/// Returns the one command whose letter is on a line. `NoCommand` if there is none, `TwoCommands`
+/// of the first two if there are several.
 pub(crate) fn only_letter<'a>(flags: Flags) -> Result<Letter, WordFault<'a>>
     ensures { told result ≡ only_letter (letters_in flags) }
 {

@@ -30,14 +30,14 @@ pub(crate) fn is_hyphen(name: &str) -> bool
     name == "-"
 }
 
-/// The file of a name, or `None` for `-`, which is standard input.
+/// Returns the file of a name, or `None` for `-`, which is standard input.
 fn file_named(name: &str) -> Option<&str>
     ensures { option_map (λ s. s.now) result ≡ file_named name.entry.now }
 {
     if is_hyphen(name) { None } else { Some(name) }
 }
 
-/// The file to be read: standard input if there is no name. `Surplus` if there are several.
+/// Returns the file to be read: standard input if there is no name. `Surplus` if there are several.
 pub(crate) fn one_name<'a>(names: Option<&[&'a str]>) -> Result<Option<&'a str>, WordFault<'a>>
     ensures { map_told (option_map (λ s. s.now)) result ≡ one_name (names_in names.entry) }
 {
@@ -48,7 +48,7 @@ pub(crate) fn one_name<'a>(names: Option<&[&'a str]>) -> Result<Option<&'a str>,
     }
 }
 
-/// The first name, and those after it. `Lacks` if there is none.
+/// Returns the first name, and the names after it. `Lacks` if there is none.
 pub(crate) fn first_name<'a, 'b>(
     names: Option<&'b [&'a str]>,
 ) -> Result<(&'a str, &'b [&'a str]), WordFault<'a>>

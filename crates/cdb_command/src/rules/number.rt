@@ -13,7 +13,7 @@ fn is_digits(text: &str) -> bool
     text.bytes().all(|b| b.is_ascii_digit())
 }
 
-/// `Number` of its text if it is 0: values are counted from 1.
+/// Returns the number of a value, or `Number` of its text if it is 0: values are counted from 1.
 fn value_number(text: &str, number: u32) -> Result<u32, WordFault<'_>>
     ensures { told result ≡ value_number text.entry.now number }
 {
@@ -24,8 +24,8 @@ fn value_number(text: &str, number: u32) -> Result<u32, WordFault<'_>>
     }
 }
 
-/// The number of a value. `Number` if the text isn't decimal digits alone, of a number from 1
-/// to 4294967295.
+/// Returns the number of a value. `Number` if the text isn't decimal digits alone, of a number from
+/// 1 to 4294967295.
 fn decimal(text: &str) -> Result<u32, WordFault<'_>>
     ensures { told result ≡ decimal_in text.entry.now }
 {
@@ -38,7 +38,7 @@ fn decimal(text: &str) -> Result<u32, WordFault<'_>>
     }
 }
 
-/// The number of a value, if there is one.
+/// Returns the number of a value, if there is one.
 pub(crate) fn number_of(text: Option<&str>) -> Result<Option<u64>, WordFault<'_>>
     ensures { told result ≡ number_in (option_map (λ s. s.now) text.entry) }
 {

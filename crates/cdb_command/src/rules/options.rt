@@ -15,7 +15,7 @@ const NARROW_LIMIT: u64 = 4294967295;
 /// The greatest size of a file whose words have 8 bytes.
 const WIDE_LIMIT: u64 = 9223372036854775807;
 
-/// The style of the texts.
+/// Returns the style of the texts.
 pub(crate) fn style_of(flags: Flags) -> Style
     ensures { result ≡ style_in flags }
 {
@@ -37,7 +37,7 @@ fn mode_of(flags: Flags) -> Mode
     }
 }
 
-/// How a database is to be made.
+/// Returns how a database is to be made.
 pub(crate) fn options_of(flags: Flags) -> MakeOptions
     ensures { result ≡ options_of flags }
 {

@@ -12,7 +12,7 @@ use crate::rules::letter::{Letter, letter_code};
 use crate::rules::names::is_hyphen;
 use crate::word_fault::WordFault;
 
-/// The options in their order, and whether each is on a line.
+/// Returns the options in their order, and whether each is on a line.
 fn options_on(line: &Line<'_, '_>) -> [(bool, char); 9]
     ensures { result ≡ options_on (given_in line.now) }
 {
@@ -46,7 +46,7 @@ fn takes_option(letter: Letter, option: char, line: &Line<'_, '_>) -> bool
     }
 }
 
-/// The first option on a line that the command does not take.
+/// Returns the first option on a line that the command does not take.
 fn stray_option(letter: Letter, line: &Line<'_, '_>) -> Option<char>
     ensures { result ≡ first_stray (taken_by letter (given_in line.now))
         (options_in (given_in line.now)) }
@@ -80,7 +80,7 @@ fn option_refused<'a>(letter: Letter, option: char, line: &Line<'a, '_>) -> Word
     }
 }
 
-/// The fault of the first option on a line that the command does not take.
+/// Fails for the first option on a line that the command does not take.
 pub(crate) fn without_stray<'a>(letter: Letter, line: &Line<'a, '_>) -> Result<(), WordFault<'a>>
     ensures { told result ≡ no_stray letter (given_in line.now) (first_stray (taken_by letter (given_in line.now))
         (options_in (given_in line.now))) }
