@@ -1,4 +1,4 @@
-// The numbers that C gets of the making calls, and those that it passes.
+// The numbers that the making calls return to C, and the numbers that C passes.
 ghost use Rattle.std.specs.Prelude.{◌≡◌};
 ghost use Rattle.cdb_c.specs.Codes.{fault_code, put_code, done_code, found_code, removed_code};
 ghost use Rattle.cdb_c.specs.Codes.{mode_of, appended_code};
@@ -6,7 +6,7 @@ ghost use Rattle.cdb_c.specs.Codes.{mode_of, appended_code};
 use cdb_form::Mode;
 use cdb_make::{MakeFault, Put};
 
-/// The number of a fault.
+/// Returns the number of a fault.
 fn fault_code(fault: MakeFault) -> i32
     ensures { result ≡ fault_code fault }
 {
@@ -19,7 +19,7 @@ fn fault_code(fault: MakeFault) -> i32
     }
 }
 
-/// The number of a call that only succeeds or fails.
+/// Returns the number of a call that only succeeds or fails.
 pub(crate) fn done_code(answer: Result<(), MakeFault>) -> i32
     ensures { result ≡ done_code answer }
 {
@@ -29,7 +29,7 @@ pub(crate) fn done_code(answer: Result<(), MakeFault>) -> i32
     }
 }
 
-/// The number of a put: 1 says that the key was there.
+/// Returns the number of a put: 1 says that the key was there.
 pub(crate) fn put_code(answer: Result<Put, MakeFault>) -> i32
     ensures { result ≡ put_code answer }
 {
@@ -40,7 +40,7 @@ pub(crate) fn put_code(answer: Result<Put, MakeFault>) -> i32
     }
 }
 
-/// The number of an append.
+/// Returns the number of an append.
 pub(crate) fn appended_code(answer: Result<usize, MakeFault>) -> i32
     ensures { result ≡ appended_code answer }
 {
@@ -50,7 +50,7 @@ pub(crate) fn appended_code(answer: Result<usize, MakeFault>) -> i32
     }
 }
 
-/// The number of a look: 1 says that the key is there.
+/// Returns the number of a look: 1 says that the key is there.
 pub(crate) fn found_code(answer: Result<bool, MakeFault>) -> i32
     ensures { result ≡ found_code answer }
 {
@@ -61,7 +61,7 @@ pub(crate) fn found_code(answer: Result<bool, MakeFault>) -> i32
     }
 }
 
-/// The number of a removal: 1 says that there were records.
+/// Returns the number of a removal: 1 says that there were records.
 pub(crate) fn removed_code(answer: Result<u64, MakeFault>) -> i32
     ensures { result ≡ removed_code answer }
 {
@@ -72,7 +72,7 @@ pub(crate) fn removed_code(answer: Result<u64, MakeFault>) -> i32
     }
 }
 
-/// The mode of a number of cdb.h.
+/// Returns the mode of a number of cdb.h.
 pub(crate) fn mode_of(number: u32) -> Mode
     ensures { result ≡ mode_of number }
 {

@@ -10,18 +10,18 @@ use cdb_form::Narrow;
 use cdb_read::Span;
 use cdb_read::memory::{Search, begin, find, next};
 
-/// Where a value was found.
+/// The place and the length of a value that was found.
 #[repr(C)]
 #[derive(Clone, Copy)]
 pub struct Found {
-    /// The place of its first byte.
+    /// The place of the value's first byte.
     pub place: u32,
-    /// The number of bytes it has.
+    /// The number of bytes that the value has.
     pub len: u32,
 }
 
 impl Found {
-    /// A span that ends before 4 GiB.
+    /// Returns the place and the length of a span that ends before 4 GiB.
     fn of(span: Span) -> Found
         requires { span.place + span.len ≤ 4294967295 }
         ensures { span_of result ≡ span }
@@ -33,7 +33,7 @@ impl Found {
     }
 }
 
-/// Where the search of a key is.
+/// The state of the search of a key.
 #[repr(C)]
 #[derive(Clone, Copy)]
 pub struct State {
@@ -45,12 +45,12 @@ pub struct State {
     pub slots: u64,
     /// The number of the next slot.
     pub slot: u64,
-    /// The number of slots that are left, that one among them.
+    /// The number of slots that are left, the next one among them.
     pub left: u64,
 }
 
 impl State {
-    /// The state of a search.
+    /// Returns the state of a search.
     fn of(search: Search) -> State
         ensures { search_of result ≡ search }
     {
@@ -63,7 +63,7 @@ impl State {
         }
     }
 
-    /// The search at a state.
+    /// Returns the search at a state.
     fn search(&self) -> Search
         ensures { result ≡ search_of self.now }
     {
@@ -77,7 +77,7 @@ impl State {
     }
 }
 
-/// The first value of a key in a file, which has at least a head and less than 4 GiB.
+/// Finds the first value of a key in a file, which has at least a head and less than 4 GiB.
 #[unsafe(no_mangle)]
 pub extern "C" fn cdb_c_find(file: &[u8], key: &[u8], found: &mut Found) -> i32
     requires head { head_size 4 ≤ length file.now }
@@ -97,7 +97,8 @@ pub extern "C" fn cdb_c_find(file: &[u8], key: &[u8], found: &mut Found) -> i32
     }
 }
 
-/// Begins the search of a key in a file, which has at least a head. 0 says that it ends at once.
+/// Begins the search of a key in a file, which has at least a head. 0 says that the search has
+/// ended already.
 #[unsafe(no_mangle)]
 pub extern "C" fn cdb_c_begin(file: &[u8], key: &[u8], state: &mut State) -> i32
     requires { head_size 4 ≤ length file.now }
@@ -117,7 +118,7 @@ pub extern "C" fn cdb_c_begin(file: &[u8], key: &[u8], state: &mut State) -> i32
     }
 }
 
-/// The next value of a key, whose search in this file is at a state. After a damage the state
+/// Finds the next value of a key, whose search in this file is at a state. After a damage the state
 /// stays.
 ///
 /// Any state is safe to pass: the value lies inside the file.

@@ -1,7 +1,8 @@
 // A maker of a database that a program in C holds between its calls.
 //
-// C holds a `Handle`: 16 bytes, of which zeros are no database. Each call takes the database out of the handle, makes
-// the call of its `Maker`, and puts it back. C gives the file, which is written as records come.
+// C holds a `Handle`, 16 bytes. Zeros mean that it has no database. Each call takes the database
+// out of the handle, makes the call of its `Maker`, and puts it back. C gives the file, which is
+// written as records come.
 mod address;
 mod database;
 mod file;

@@ -35,7 +35,7 @@ fn put_by(
     put(alloc, handle, mode_of(mode), key, value)
 }
 
-/// The number of the descriptor of a file, which stays open. The file's block is freed.
+/// Returns the number of the descriptor of a file, which stays open. The file's block is freed.
 #[unsafe(no_mangle)]
 pub extern "C" fn cdb_c_file_number(file: GivenFile) -> i32
     ensures { result ≡ file_raw_fd file.file }
@@ -43,7 +43,8 @@ pub extern "C" fn cdb_c_file_number(file: GivenFile) -> i32
     number(file)
 }
 
-/// Begins a database in an empty file, which stays open. What the handle held before is freed.
+/// Begins a database in an empty file, which stays open. The database that the handle held before
+/// is freed.
 #[unsafe(no_mangle)]
 pub extern "C" fn cdb_c_make_start(alloc: Global, handle: &mut Handle, file: GivenFile) -> i32
     ensures { Answers done_code result (λ _. HasNewMaker (kept_in handle.new))
@@ -112,7 +113,7 @@ pub extern "C" fn cdb_c_make_written(alloc: Global, handle: &mut Handle) -> u64
     written(alloc, handle)
 }
 
-/// Whether some record has a key: 1 or 0. -1: the handle has no maker, or a broken one.
+/// Returns 1 if some record has a key, else 0. -1: the handle has no maker, or a broken one.
 #[unsafe(no_mangle)]
 pub extern "C" fn cdb_c_make_exists(alloc: Global, handle: &mut Handle, key: &[u8]) -> i32
     ensures finds { Answers found_code result

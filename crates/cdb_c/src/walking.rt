@@ -10,22 +10,22 @@ use cdb_form::Narrow;
 use cdb_read::Pair;
 use cdb_read::memory::{RecordArea, first_record, next_record};
 
-/// Where a record of a walk is.
+/// The places of a record of a walk, of its key and of its value.
 #[repr(C)]
 #[derive(Clone, Copy)]
 pub struct Placed {
-    /// The place of its header.
+    /// The place of the record's header.
     pub place: u32,
-    /// The place of its key, and how many bytes that has.
+    /// The place of the record's key, and the number of bytes that the key has.
     pub key_place: u32,
     pub key_len: u32,
-    /// The place of its value, and how many bytes that has.
+    /// The place of the record's value, and the number of bytes that the value has.
     pub value_place: u32,
     pub value_len: u32,
 }
 
 impl Placed {
-    /// A pair that ends before 4 GiB.
+    /// Returns the places of a pair that ends before 4 GiB.
     fn of(pair: Pair) -> Placed
         requires lies { LiesAt 4 pair.place pair }
         requires narrow { behind pair ≤ 4294967295 }
@@ -41,8 +41,8 @@ impl Placed {
     }
 }
 
-/// Where the records of a file end, which has at least a head. 0 says that the records would end
-/// before the head does. The first record follows the head, at 2048.
+/// Returns the place where the records of a file end, which has at least a head. 0 says that the
+/// records would end before the head does. The first record follows the head, at 2048.
 #[unsafe(no_mangle)]
 pub extern "C" fn cdb_c_record_end(file: &[u8]) -> u64
     requires { head_size 4 ≤ length file.now }
@@ -55,8 +55,8 @@ pub extern "C" fn cdb_c_record_end(file: &[u8]) -> u64
     }
 }
 
-/// The next record of a walk at a place of a file, whose records end there; then the walk is at
-/// the place after it. After a damage it stays, and so it does at the record end.
+/// Finds the next record of a walk at a place of a file, whose records end at `end`, and moves the
+/// place after the record. After a damage and at the record end the place stays.
 ///
 /// Any place and any record end are safe to pass: the record lies inside the file. A record end
 /// in the head is a damage.

@@ -16,11 +16,11 @@ struct Values {
     number: bool,
     temporary: bool,
     base: bool,
-    /// The last of them, if its value did not come yet.
+    /// The last of these letters, if its value did not come yet.
     waiting: Option<char>,
 }
 
-/// None was met.
+/// Returns the values before any letter is met.
 fn no_values() -> Values
     ensures { result ≡ no_values }
 {
@@ -32,7 +32,7 @@ fn no_values() -> Values
     }
 }
 
-/// The value of the last letter came.
+/// Notes that the value of the last letter came.
 fn none_waits(values: Values) -> Values
     ensures { result ≡ none_waits values }
 {
@@ -42,7 +42,7 @@ fn none_waits(values: Values) -> Values
     }
 }
 
-/// A letter is met.
+/// Notes a letter that is met.
 fn letter_met<'a>(values: Values, letter: char) -> Result<Values, WordFault<'a>>
     ensures { told result ≡ letter_met values letter }
 {
@@ -69,7 +69,7 @@ fn letter_met<'a>(values: Values, letter: char) -> Result<Values, WordFault<'a>>
     }
 }
 
-/// The letters of a word are met, which come after its hyphen.
+/// Notes the letters of a word that is met, which come after its hyphen.
 fn letters_met<'a>(mut values: Values, word: &str) -> Result<Values, WordFault<'a>>
     ensures { told result ≡ letters_met values (drop 1 (chars word.now)) }
 {
@@ -104,7 +104,7 @@ fn is_long(word: &str) -> bool
     }
 }
 
-/// A word with a hyphen is met.
+/// Notes a word with a hyphen that is met.
 fn hyphen_met(values: Values, word: &str) -> Result<Values, WordFault<'_>>
     ensures { told result ≡ hyphen_met values.waiting values word.entry.now }
 {
@@ -115,7 +115,7 @@ fn hyphen_met(values: Values, word: &str) -> Result<Values, WordFault<'_>>
     }
 }
 
-/// A word is met.
+/// Notes a word that is met.
 fn word_met(values: Values, word: &str) -> Result<Values, WordFault<'_>>
     ensures { told result ≡ word_met values word.entry.now }
 {
@@ -126,7 +126,8 @@ fn word_met(values: Values, word: &str) -> Result<Values, WordFault<'_>>
     }
 }
 
-/// No word comes, or none but names.
+/// Returns the fault if no word comes, or only names: the last letter lacks its value, or else
+/// `Words`.
 fn end_met<'a>(waiting: Option<char>) -> WordFault<'a>
     ensures { refused_in result ≡ end_met waiting }
 {
@@ -153,7 +154,7 @@ fn first_bad(words: &[String]) -> WordFault<'_>
     end_met(values.waiting)
 }
 
-/// Returns true if it is the word that requests help of other programs.
+/// Returns true if the fault is the word that requests help of other programs.
 fn is_help(fault: &WordFault<'_>) -> bool
     ensures { result ≡ is_help (refused_in fault.now) }
 {
@@ -163,8 +164,8 @@ fn is_help(fault: &WordFault<'_>) -> bool
     }
 }
 
-/// The first letter or word that is no part of a command line, whose first word is the program's
-/// name. If it is `--help`, and no letter of a command is on the line, that is what lacks.
+/// Returns the first letter or word that is no part of a command line, whose first word is the
+/// program's name. If it is `--help`, and no letter of a command is on the line, returns `Help`.
 pub(crate) fn bad_word(words: &[String]) -> WordFault<'_>
     ensures { refused_in result ≡ bad_word (map string_bytes words.entry.now) }
 {

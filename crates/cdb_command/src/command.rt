@@ -1,8 +1,8 @@
-// What the program does on request.
+// The commands of the program.
 use crate::options::MakeOptions;
 use crate::style::Style;
 
-/// What a command line means. A name that is `None` is standard input, and `wide` says that
+/// The meaning of a command line. A name that is `None` is standard input, and `wide` says that
 /// words have 8 bytes.
 #[derive(Debug, Drop)]
 pub enum Command {
@@ -15,7 +15,7 @@ pub enum Command {
         lines: bool,
         wide: bool,
     },
-    /// The records of keys are written as a text, or of each key the value with a number alone. The
+    /// The records of keys are written as a text, or for each key only the value with a number. The
     /// inputs give the keys.
     Lookups {
         name: String,
@@ -46,7 +46,7 @@ pub enum Command {
         name: Option<String>,
         wide: bool,
     },
-    /// What changed between two databases, the old one and the new one, is written as a text that a
+    /// The difference of two databases, the old one and the new one, is written as a text that a
     /// create amends the old one by.
     Difference {
         old: String,

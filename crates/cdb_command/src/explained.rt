@@ -1,8 +1,8 @@
-// Which letters a command line has, also one without a meaning.
+// The letters of a command line, also of one without a meaning.
 ghost use Rattle.std.specs.Prelude.{◌≡◌, map, string_bytes};
 ghost use Rattle.cdb_command.specs.Refused.{asks_in, explains_in, has, have, some_has};
 
-/// Returns true if one of the letters that are sought is among those of a word.
+/// Returns true if one of the sought letters is among the letters of a word.
 fn have(sought: &[u8], letters: &[u8]) -> bool
     ensures { result ≡ have sought.now letters.now }
 {
@@ -16,7 +16,7 @@ fn have(sought: &[u8], letters: &[u8]) -> bool
     false
 }
 
-/// Returns true if a word has one of them.
+/// Returns true if a word has one of the sought letters.
 fn has(sought: &[u8], word: &str) -> bool
     ensures { result ≡ has sought.now word.now }
 {
@@ -26,7 +26,7 @@ fn has(sought: &[u8], word: &str) -> bool
     }
 }
 
-/// Returns true if one of some words has one of them, up to the word `--`.
+/// Returns true if one of some words, up to the word `--`, has one of the sought letters.
 fn some_has(sought: &[u8], words: &[String]) -> bool
     ensures { result ≡ some_has sought.now (map string_bytes words.now) }
 {
@@ -41,8 +41,8 @@ fn some_has(sought: &[u8], words: &[String]) -> bool
     false
 }
 
-/// Returns true if `-v` is among the words of a command line, the first of which is the program's
-/// name: faults are to be explained then. It is answered of words without a meaning too.
+/// Returns true if `-v` is among the words of a command line, whose first word is the program's
+/// name: faults are to be explained then. The words may also have no meaning.
 pub fn explains(words: &[String]) -> bool
     ensures { result ≡ explains_in (map string_bytes words.now) }
 {
@@ -52,7 +52,7 @@ pub fn explains(words: &[String]) -> bool
     }
 }
 
-/// Returns true if the letter of a command is among them.
+/// Returns true if the letter of a command is among the words of a command line.
 pub(crate) fn asks(words: &[String]) -> bool
     ensures { result ≡ asks_in (map string_bytes words.now) }
 {

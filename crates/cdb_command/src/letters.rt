@@ -8,7 +8,7 @@ ghost use Rattle.cdb_command.specs.Words.{flag_rule, flag_rules};
 
 use clap::ArgMatches;
 
-/// The letters without a value, each of which is its own name too: the commands', and then their
+/// Returns the letters without a value, each with itself as its name: the commands', and then their
 /// options'.
 pub(crate) fn flag_letters<'a>() -> [(&'a str, char); 17]
     ensures letters { map (λ p. p.1) result ≡ flag_letters }
@@ -47,7 +47,7 @@ pub(crate) fn is_flag(letter: char) -> bool
     false
 }
 
-/// Which letters without a value are on a line, each once or often.
+/// The letters without a value that are on a line, each once or often.
 #[derive(Clone, Copy)]
 pub(crate) struct Flags {
     pub(crate) query: bool,
@@ -68,14 +68,14 @@ pub(crate) struct Flags {
     pub(crate) insert: bool,
 }
 
-/// Returns true if a letter is there.
+/// Returns true if a letter is on a line.
 fn has(matches: &ArgMatches<'_>, id: &str) -> bool
     ensures { result ≡ has id.now (rows_of (found_of matches.now)) }
 {
     matches.get_count(id) > 0
 }
 
-/// Which of the letters are on a line.
+/// Returns the letters without a value that are on a line.
 pub(crate) fn flags_of(matches: &ArgMatches<'_>) -> Flags
     ensures { result ≡ flags_of (rows_of (found_of matches.now)) }
 {

@@ -1,7 +1,7 @@
-// What a command line says.
+// The letters, values and names of a command line.
 use crate::letters::Flags;
 
-/// What is on a line after the program's name.
+/// The letters, values and names that a line has after the program's name.
 #[derive(Clone, Copy)]
 pub(crate) struct Line<'a, 'b> {
     pub(crate) flags: Flags,

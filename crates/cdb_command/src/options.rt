@@ -5,7 +5,7 @@ use cdb_form::Mode;
 /// How a database is made of the records of some inputs.
 #[derive(Clone, Copy, Debug, PartialEq, Eq)]
 pub struct MakeOptions {
-    /// What is done with a record whose key is there already, unless the run is to stop there.
+    /// The treatment of a record whose key is there already, unless the run is to stop there.
     pub mode: Mode,
     /// True if a record whose key is there already is reported.
     pub warn: bool,

@@ -1,4 +1,4 @@
-// What the words of a command line request.
+// The command that the words of a command line request.
 ghost use Rattle.std.specs.Prelude.{◌≡◌, ◌≢◌, [], IfOk, IfErr, map, string_bytes};
 ghost use Rattle.cdb_command.specs.Asked.{Gives, GivesUsage, asked_in, IsInRange};
 ghost use Rattle.cdb_command.specs.Refused.{refused_in, usage_of};
@@ -12,7 +12,8 @@ use crate::word_fault::WordFault;
 use crate::words::{line_of, matches_of};
 use std::alloc::Global;
 
-/// What the words of a command line request, the first of which is the program's name.
+/// Returns the command that the words of a command line request, whose first word is the program's
+/// name.
 ///
 /// Letters come alone or several after one hyphen, in any order, before names, between them and
 /// after them; a letter without a value that comes often is as one. After `--` all words are
@@ -47,7 +48,7 @@ pub fn plan(alloc: Global, words: Vec<String>) -> Result<Command, Usage>
     }
 }
 
-/// Answers as `plan` does, and of words without a meaning which word or letter has none:
+/// Answers as `plan` does, and if words have no meaning it names the word or letter at fault:
 /// - `Words` is `Unknown`, `Long`, `NoValue` or `Twice`, of the first of the words that has one of
 ///   these, or `Words` if the parser of the line had another reason;
 /// - `TwoCommands` has the first two of the letters;

@@ -1,4 +1,4 @@
-// What a command line may say, rule by rule.
+// The rules of a command line, one by one.
 pub(crate) mod asking;
 pub(crate) mod base;
 pub(crate) mod letter;

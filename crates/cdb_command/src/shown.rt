@@ -20,7 +20,7 @@ fn is_hidden(character: char) -> bool
         )
 }
 
-/// Returns true if a text has such a character.
+/// Returns true if a text has a character that is hidden.
 fn has_hidden(text: &str) -> bool
     ensures { result ≡ has_hidden text.now }
 {
@@ -32,7 +32,7 @@ fn has_hidden(text: &str) -> bool
     false
 }
 
-/// Returns true if bytes are a text that has none.
+/// Returns true if bytes are a text without a character that is hidden.
 fn is_printable(bytes: &[u8]) -> bool
     ensures { result ≡ is_printable bytes.now }
 {
@@ -42,7 +42,7 @@ fn is_printable(bytes: &[u8]) -> bool
     }
 }
 
-/// Returns the number of bytes that follow the first one of a character, as that says.
+/// Returns the number of bytes that follow the first byte of a character, as this byte says.
 fn continuation_len(first: u8) -> usize
     ensures { result ≡ continuation_len first }
 {
@@ -54,7 +54,8 @@ fn continuation_len(first: u8) -> usize
     }
 }
 
-/// As many of some bytes as the first of them says that its character has.
+/// Returns the first character of some bytes, as long as its first byte says, or all of them if
+/// there are fewer.
 fn first_piece(bytes: &[u8]) -> &[u8]
     ensures { result.now ≡ first_piece bytes.now }
 {
@@ -69,10 +70,10 @@ fn first_piece(bytes: &[u8]) -> &[u8]
     }
 }
 
-/// Returns the number of bytes that the character has that some bytes begin with, if a line shows
-/// it as it is: or else 0. All of UTF-8 is shown so but control characters, the separators of lines
+/// Returns the number of bytes of the character that some bytes begin with, if a line shows it as
+/// it is, or else 0. All of UTF-8 is shown so except control characters, the separators of lines
 /// and paragraphs, characters that mark, embed, override or isolate a direction of writing, tag
-/// characters, and the backslash. Of 0 the first byte is shown `escaped`.
+/// characters, and the backslash. If it is 0, the first byte is shown `escaped`.
 pub fn printable_len(bytes: &[u8]) -> usize
     ensures exact { result ≡ printable_len bytes.now }
     ensures bound { result ≤ length bytes.now }
@@ -81,7 +82,7 @@ pub fn printable_len(bytes: &[u8]) -> usize
     if is_printable(piece) { piece.len() } else { 0 }
 }
 
-/// The digit of a number below 16.
+/// Returns the digit of a number below 16.
 fn digit(n: u8) -> u8
     requires { n < 16 }
     ensures { result ≡ digit n }
@@ -89,8 +90,8 @@ fn digit(n: u8) -> u8
     if n < 10 { n + 48 } else { n + 87 }
 }
 
-/// What a byte of a name, a word or a key is shown as in a line if it begins no character that is
-/// shown as it is: a backslash, `x` and its number.
+/// Returns the bytes that a line shows for a byte of a name, a word or a key that begins no
+/// character shown as it is: a backslash, `x` and its number.
 pub fn escaped(byte: u8) -> [u8; 4]
     ensures { result ≡ escaped byte }
 {

@@ -1,4 +1,4 @@
-// Why a command line is not understood.
+// The reason why a command line is not understood.
 ghost use Rattle.std.specs.Prelude.{◌≡◌, Some};
 ghost use Rattle.cdb_command.specs.Usage.{usage_number, usage_message};
 
@@ -6,29 +6,30 @@ use std::alloc::{AllocError, AllocFailed};
 use std::error::Error;
 use std::fmt;
 
-/// Why a command line has no meaning.
+/// The reason why a command line has no meaning.
 #[derive(Debug, Drop, PartialEq, Eq)]
 pub enum Usage {
-    /// It has a letter that is no option, an option without its value, or one twice.
+    /// The line has a letter that is no option, a long word, an option without its value, or one
+    /// twice.
     Words,
-    /// It has no letter of a command.
+    /// The line has no letter of a command.
     NoCommand,
-    /// It has the letters of several commands.
+    /// The line has the letters of several commands.
     TwoCommands,
-    /// It has this option, which its command doesn't take.
+    /// The line has this option, which its command doesn't take.
     Option(char),
     /// The number of a value isn't one from 1 to 4294967295 in decimal digits alone.
     Number,
-    /// It has too few names for its command, or too many.
+    /// The line has too few names for its command, or too many.
     Names,
     /// Duplicates are to be replaced, and to be left out.
     Both,
-    /// Memory ran out.
+    /// An allocation failed.
     NoMemory,
 }
 
 impl Usage {
-    /// The number of the fault, from 1 on in the order of the variants.
+    /// Returns the number of the fault, counted from 1 in the order of the variants.
     pub fn number(&self) -> u8
         ensures { result ≡ usage_number self.now }
     {
@@ -44,7 +45,7 @@ impl Usage {
         }
     }
 
-    /// The words of the fault: one sentence for all of them but `NoMemory`.
+    /// Returns the fault in words: one sentence for all faults except `NoMemory`.
     pub fn message(&self) -> &'static str
         ensures { result.now ≡ usage_message self.now }
     {

@@ -1,4 +1,4 @@
-// Why a command line is not understood, and which of its words or letters that is of.
+// The reason why a command line is not understood, with the word or the letters at fault.
 ghost use Rattle.std.specs.Prelude.{◌≡◌};
 ghost use Rattle.cdb_command.specs.Refused.{refused_in, usage_of};
 
@@ -10,15 +10,15 @@ use std::alloc::{AllocError, AllocFailed};
 pub enum Lacking {
     /// The database.
     Database,
-    /// The key that is looked up in it.
+    /// The key that is looked up in the database.
     Key,
-    /// Of two databases, the old one.
+    /// The old one of two databases.
     Old,
-    /// Of two databases, the new one.
+    /// The new one of two databases.
     New,
 }
 
-/// Why a command line has no meaning, with the letters or the word that has none.
+/// The reason why a command line has no meaning, with the word or the letters at fault.
 #[derive(Clone, Copy, Debug, PartialEq, Eq)]
 pub enum WordFault<'a> {
     /// A letter that is no option.
@@ -45,18 +45,18 @@ pub enum WordFault<'a> {
     BaseBuiltIn(&'a str),
     /// The number of a value that isn't one from 1 to 4294967295 in decimal digits alone.
     Number(&'a str),
-    /// Too few names, of which this is the first that lacks.
+    /// Too few names. This is the first that lacks.
     Lacks(Lacking),
-    /// Too many names, of which this is the first that is too many.
+    /// Too many names. This is the first that is too many.
     Surplus(&'a str),
     /// Duplicates are to be replaced, and to be left out.
     Both,
-    /// Memory ran out.
+    /// An allocation failed.
     NoMemory,
 }
 
 impl<'a> WordFault<'a> {
-    /// Why the line has no meaning, whatever the word.
+    /// Returns the reason why the line has no meaning, without the word.
     pub fn usage(&self) -> Usage
         ensures { result ≡ usage_of (refused_in self.now) }
     {

@@ -1,4 +1,4 @@
-// What `clap` makes of the words.
+// The words of a command line, as `clap` parses them.
 ghost use Rattle.std.specs.Prelude.{◌≡◌, ◌≢◌, ◌⊎◌, [], IfOk, IfErr, false, map, string_bytes};
 ghost use Rattle.clap.specs.Walk.{rows_of};
 ghost use Rattle.clap.specs.Matches.{found_of};
@@ -18,15 +18,15 @@ use clap::ArgMatches;
 use clap::error::ErrorKind;
 use std::alloc::Global;
 
-/// Returns true if `clap` refused words since memory ran out.
+/// Returns true if `clap` refused words since an allocation failed.
 fn is_of_memory(error: &clap::Error) -> bool
     ensures { result ≡ false → kind_of error.now ≢ ErrorKind.OutOfMemory }
 {
     matches!(error.kind(), ErrorKind::OutOfMemory)
 }
 
-/// What `clap` makes of the words, the first of which is the program's name. The first bad letter
-/// or word if it refuses them.
+/// Returns the words as `clap` parses them, or the first bad letter or word if it refuses them. The
+/// first word is the program's name.
 pub(crate) fn matches_of<'a>(
     alloc: Global,
     words: &'a [String],
@@ -45,7 +45,7 @@ pub(crate) fn matches_of<'a>(
     }
 }
 
-/// What is on the line.
+/// Returns the letters, values and names of the line.
 pub(crate) fn line_of<'a, 'b>(matches: &'b ArgMatches<'a>) -> Line<'a, 'b>
     ensures { given_in result ≡ given_of (rows_of (found_of matches.now)) }
 {

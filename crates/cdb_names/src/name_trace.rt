@@ -33,10 +33,10 @@ pub enum NameCall {
     Own(Answer),
     /// The answer whether standard input is the file of the name.
     Input(Answer),
-    /// The regular file that has the name, as the system shows it, or that none has it, if the
-    /// system said.
+    /// The permission bits and the user of the regular file that has the name, or that none has it,
+    /// if the system said.
     Bits(Option<Option<Shown>>),
-    /// The open file of the name, as the system shows it, if the system said.
+    /// The permission bits and the user of the open file of the name, if the system said.
     Seen(Option<Shown>),
     /// The system was requested to give the file of the name these permission bits.
     Set(u32),

@@ -76,7 +76,7 @@ impl<'a, R: Files<File = File> + AllocGlobal> RealNames<'a, R> {
         self.refuse_of(call, name, other, name, cause, &Trace::new());
     }
 
-    /// Notes a call on a file with these calls. The call refused `refused`.
+    /// Notes a call on a file with these calls. The call refused the name `refused`.
     fn refuse_of(
         &mut self,
         call: &NameCall,

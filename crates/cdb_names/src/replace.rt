@@ -347,11 +347,11 @@ fn make_plain<N: Names, E: Drop>(
     Ok((made.0, Shown { bits, user }))
 }
 
-/// Makes a file under the temporary name. An old file of that name is removed first, unless it is
-/// the file to be replaced or another create holds it. Returns also the new file's user, and the
-/// permission bits that it is to have if no file of this user has the name by then. They come from
-/// the file that has the name now, if both files have the same user. Another user's bits are his
-/// choice: then the new file is removed again, and made anew as if nothing had the name.
+/// Makes a file under the temporary name. An old file of that name is removed first; it is a fault
+/// if that is the file to be replaced or another create holds it. Returns also the new file's user,
+/// and the permission bits that it is to have if no file of this user has the name by then. They
+/// come from the file that has the name now, if both files have the same user. Another user's bits
+/// are his choice: then the new file is removed again, and made anew as if nothing had the name.
 fn make_temporary<N: Names, E: Drop>(
     names: &mut N,
     name: &str,

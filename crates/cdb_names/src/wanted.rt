@@ -7,9 +7,9 @@ use crate::shown::Shown;
 /// The permission bits that a file is to have before it gets its name.
 #[derive(Clone, Copy, Debug, PartialEq, Eq)]
 pub enum Wanted {
-    /// The bits of this user's file that it replaces: it gets the same.
+    /// The bits of this user's file that the file replaces: it gets the same.
     Old(u32),
-    /// It replaces no file of this user: it gets no other bits than these, but may have fewer.
+    /// The file replaces none of this user: it gets no other bits than these, but may have fewer.
     New(u32),
 }
 

@@ -10,7 +10,7 @@ use std::marker::Model;
 
 /// The address of a database on the heap, or an address that means nothing.
 ///
-/// Dropping a slot does not free the database: `Handle::take` gives its box back.
+/// Dropping a slot does not free the database: `Handle::take` returns its box.
 #[repr(C)]
 #[derive(Drop)]
 pub struct BoxAddress {
@@ -24,7 +24,7 @@ impl Model for BoxAddress {
 }
 
 impl BoxAddress {
-    /// A slot of no database. Its address means nothing.
+    /// Returns a slot of no database. Its address means nothing.
     pub(crate) fn empty(alloc: Global) -> BoxAddress
         ensures { result.kept ≡ None }
     {
@@ -34,7 +34,7 @@ impl BoxAddress {
         }
     }
 
-    /// A slot of a box's parts.
+    /// Returns a slot of a box's parts.
     pub(crate) fn of_parts(parts: Parts<Database, Global>) -> BoxAddress
         ensures { result.kept ≡ Some parts.value }
     {
@@ -45,7 +45,7 @@ impl BoxAddress {
         }
     }
 
-    /// The parts of its box.
+    /// Returns the parts of its box.
     pub(crate) fn into_parts(self) -> Parts<Database, Global>
         requires { is_kept self.kept ≡ true }
         ensures { self.kept ≡ Some result.value }

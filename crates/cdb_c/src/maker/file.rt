@@ -25,7 +25,7 @@ impl Model for GivenFile {
 }
 
 impl GivenFile {
-    /// The parts of its box.
+    /// Returns the parts of its box.
     pub(crate) fn into_parts(self) -> Parts<File, Global>
         ensures { result.value ≡ self.file }
     {
@@ -36,7 +36,7 @@ impl GivenFile {
         }
     }
 
-    /// The file. Its box is freed.
+    /// Returns the file, and frees its box.
     pub(crate) fn into_file(self) -> File
         ensures { result ≡ self.file }
     {

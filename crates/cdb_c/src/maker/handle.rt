@@ -1,4 +1,4 @@
-// What a program in C holds of a database.
+// The handle that a program in C holds of a database.
 ghost use Rattle.std.specs.Prelude.{◌≡◌, Some, None, MatchOption};
 ghost use Rattle.cdb_c.specs.Addresses.{is_kept};
 
@@ -20,7 +20,7 @@ pub struct Handle {
 impl Handle {
     ghost use Rattle.cdb_c.specs.Calls.{kept_in};
 
-    /// A handle of no database.
+    /// Returns a handle of no database.
     pub(crate) fn empty(alloc: Global) -> Handle
         ensures { kept_in result ≡ None }
     {
@@ -30,7 +30,7 @@ impl Handle {
         }
     }
 
-    /// A handle of a database.
+    /// Returns a handle of a database.
     pub(crate) fn of(database: Box<Database>) -> Handle
         ensures { kept_in result ≡ Some database.value }
     {

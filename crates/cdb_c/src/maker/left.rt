@@ -8,8 +8,8 @@ use cdb_store::{FileStore, RealFile};
 use std::alloc::Global;
 use std::os::fd::IntoRawFd;
 
-/// The file of a database, as it is: what its maker still collects is let go, and nothing is
-/// written.
+/// Returns the file of a database, as it is: what its maker still collects is dropped, and nothing
+/// is written.
 pub(crate) fn file_of(database: Database) -> Option<FileStore<RealFile>>
     ensures { result ≡ file_in database }
 {
@@ -20,7 +20,7 @@ pub(crate) fn file_of(database: Database) -> Option<FileStore<RealFile>>
     }
 }
 
-/// Takes the database out of a handle, frees it, and hands its file over.
+/// Takes the database out of a handle, frees it, and returns its file.
 pub(crate) fn taken_file(alloc: Global, handle: &mut Handle) -> Option<FileStore<RealFile>>
     ensures file { result ≡ file_of_kept (kept_in handle.old) }
     ensures none { kept_in handle.new ≡ None }
@@ -34,7 +34,7 @@ pub(crate) fn taken_file(alloc: Global, handle: &mut Handle) -> Option<FileStore
 /// Gives a file up to C, which has its descriptor. It stays open.
 ///
 /// No contract can say that a descriptor stays open. So every other function returns the file that
-/// it gives up, and only this one and `number` let go of a file.
+/// it gives up, and only `leave_open` and `number` let go of a file.
 pub(crate) fn leave_open(file: Option<FileStore<RealFile>>) {
     if let Some(file) = file {
         let _ = file.into_file().into_file().into_raw_fd();

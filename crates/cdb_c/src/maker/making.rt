@@ -23,8 +23,9 @@ use std::os::fd::{AsRawFd, IntoRawFd};
 /// The number of bytes that are written at a time.
 const WINDOW: usize = 65536;
 
-/// The number of the descriptor of a file that C gives, which stays open. C compares it with the
-/// number that it wrote into the block: so it sees whether a file is laid out as it takes it to be.
+/// Returns the number of the descriptor of a file that C gives, which stays open. C compares it
+/// with the number that it wrote into the block: so it sees whether a file is laid out as it takes
+/// it to be.
 pub fn number(file: GivenFile) -> i32
     ensures { result ≡ file_raw_fd file.file }
 {
@@ -35,7 +36,7 @@ pub fn number(file: GivenFile) -> i32
     number
 }
 
-/// A store that collects what is written, until it has a window of it.
+/// Returns a store that collects what is written, until it has a window of it.
 fn collecting(
     alloc: Global,
     file: FileStore<RealFile>,
@@ -54,7 +55,7 @@ fn collecting(
     }
 }
 
-/// A new maker of an empty file of less than 4 GiB. The file is returned if that failed.
+/// Returns a new maker of an empty file of less than 4 GiB. The file is returned if that failed.
 fn begin(alloc: Global, file: File) -> Result<Making, Refused<FileStore<RealFile>>>
     ensures new { IfOk result IsNew }
     ensures fault { IfErr result (λ r. (r.fault ≡ NoMemory) ⊎ (r.fault ≡ Writing)) }
@@ -69,8 +70,8 @@ fn begin(alloc: Global, file: File) -> Result<Making, Refused<FileStore<RealFile
     }
 }
 
-/// Begins a database as `start` does, and hands over the file that no database has then: that of
-/// the database before, or the given one if it failed.
+/// Begins a database as `start` does, and returns the file that no database has then: the file of
+/// the database before, or the given file if it failed.
 fn begin_in(
     alloc: Global,
     handle: &mut Handle,
@@ -96,8 +97,8 @@ fn begin_in(
     }
 }
 
-/// Begins a database in a file that is empty, which C gives and which stays open. What the handle
-/// held before is freed.
+/// Begins a database in an empty file, which C gives. The file stays open. The database that the
+/// handle held before is freed.
 ///
 /// `NoMemory`: an allocation failed. `Writing`: the file failed. The handle keeps what it held
 /// then.
@@ -326,7 +327,7 @@ pub fn remove(alloc: Global, handle: &mut Handle, key: &[u8]) -> Result<u64, Mak
     answer
 }
 
-/// Finishes a database: what it is then, and whether that failed.
+/// Finishes a database. Returns the database as it is then, and whether that failed.
 fn finished(database: Database) -> (Database, Result<(), MakeFault>)
     ensures ok { OnOk result.1 (IsHandleFinished (Some database) (Some result.0)) }
     ensures fails { IfErr result.1 (λ f. BetweenCalls (Some database) (Some result.0) (λ m n.

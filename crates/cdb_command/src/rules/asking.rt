@@ -1,4 +1,4 @@
-// What a line requests.
+// The command that a line requests.
 ghost use Rattle.std.specs.Prelude.{◌≡◌, option_map, string_bytes};
 ghost use Rattle.cdb_command.specs.Line.{given_in};
 ghost use Rattle.cdb_command.specs.Asked.{Gives, asked_in};

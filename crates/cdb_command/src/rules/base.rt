@@ -1,4 +1,4 @@
-// Whether a create takes a base.
+// The rule for the base of a create.
 ghost use Rattle.std.specs.Prelude.{◌≡◌, ◌++◌, codes, bytes_eq, option_map, unwrap_or, true, false};
 ghost use Rattle.cdb_command.specs.Line.{names_in, given_in};
 ghost use Rattle.cdb_command.specs.Rules.{is_hyphen, writes_out, is_built_in, takes_base};
@@ -26,7 +26,7 @@ fn writes_out(names: Option<&[&str]>) -> bool
     }
 }
 
-/// Returns true if the file in which the database is built has this name.
+/// Returns true if the database is built in a file of this name.
 fn is_built_in(temporary: Option<&str>, names: Option<&[&str]>, file: &str) -> bool
     ensures { result ≡ is_built_in (option_map (λ s. s.now) temporary.entry) (names_in names.entry) file.now }
 {

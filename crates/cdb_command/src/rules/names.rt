@@ -6,8 +6,7 @@ ghost use Rattle.cdb_command.specs.Rules.{is_hyphen, two_names, file_named, one_
 
 use crate::word_fault::{Lacking, WordFault};
 
-/// Two names, of which the fault says what lacks. `Lacks` if there are fewer, `Surplus` if there
-/// are more.
+/// Returns two names. `Lacks` of `one` or `other` if there are fewer, `Surplus` if there are more.
 pub(crate) fn two_names<'a>(
     names: Option<&[&'a str]>,
     one: Lacking,
@@ -23,7 +22,7 @@ pub(crate) fn two_names<'a>(
     }
 }
 
-/// Returns true if a name is that of a standard stream.
+/// Returns true if a name stands for a standard stream.
 pub(crate) fn is_hyphen(name: &str) -> bool
     ensures { result ≡ is_hyphen name.now }
 {

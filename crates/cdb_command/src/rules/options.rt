@@ -22,7 +22,7 @@ pub(crate) fn style_of(flags: Flags) -> Style
     if flags.map { Style::Map } else { Style::Native }
 }
 
-/// What is done with a record whose key is there already.
+/// Returns the mode that treats a record whose key is there already.
 fn mode_of(flags: Flags) -> Mode
     ensures { result ≡ mode_in flags }
 {

@@ -59,7 +59,7 @@ fn stray_option(letter: Letter, line: &Line<'_, '_>) -> Option<char>
     None
 }
 
-/// Why a create does not take the base of a line.
+/// Returns the reason why a create does not take the base of a line.
 fn base_refused<'a>(line: &Line<'a, '_>) -> WordFault<'a>
     ensures { refused_in result ≡ base_refused (given_in line.now) }
 {
@@ -70,7 +70,7 @@ fn base_refused<'a>(line: &Line<'a, '_>) -> WordFault<'a>
     }
 }
 
-/// Why a command does not take an option.
+/// Returns the reason why a command does not take an option.
 fn option_refused<'a>(letter: Letter, option: char, line: &Line<'a, '_>) -> WordFault<'a>
     ensures { refused_in result ≡ option_refused letter option (given_in line.now) }
 {

@@ -1,4 +1,4 @@
-// One more record of a walk that is kept as a bookmark.
+// The next record of a walk that is kept as a bookmark.
 ghost use Rattle.std.specs.Prelude.{IfErr, IfOk, MatchOption};
 ghost use Rattle.cdb_store.specs.Reads.{OnlyReads};
 ghost use Rattle.cdb_read.specs.Differing.{GivesNext, GivesNoNext, NextStops};

@@ -12,7 +12,7 @@ use cdb_form::{Pointer, Width, head_size, home_slot, pair_size, table_number};
 /// The next step of a search.
 #[derive(Clone, Copy)]
 pub enum Searching {
-    /// It looks at a slot.
+    /// The search looks at a slot.
     At(Probe),
     /// Nothing is left.
     AtEnd,

@@ -34,8 +34,8 @@ impl<S: Store, L: Width> Reader<S, L> {
 /// Counts what a database holds. Records and the slots of each table are read through the window,
 /// and no memory is allocated.
 ///
-/// It answers `Table` if a table with slots doesn't lie after the head and inside the file,
-/// the first one by its number; else `Record` if there is no whole record; and `Device` if the
+/// It returns `Table` if a table with slots doesn't lie after the head and inside the file, the
+/// first one by its number; else `Record` if no whole record is at a place; and `Device` if the
 /// store failed. The reader stays as usable as it was.
 pub fn stats<L: Width, S: Store>(reader: &mut Reader<S, L>) -> Result<Stats, ReadFault>
     ensures reads { OnlyReads S.Store reader.old.store reader.new.store }

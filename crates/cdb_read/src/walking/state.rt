@@ -14,7 +14,7 @@ pub(crate) struct RecordArea {
 /// The next step of a walk.
 #[derive(Clone, Copy)]
 pub(crate) enum Walking {
-    /// It looks at the next place.
+    /// The walk looks at the next place.
     At(RecordArea),
     /// Nothing is left.
     AtEnd,
