@@ -42,8 +42,8 @@ class Item:
     code: str
 
     def has_name(self, names):
-        """Whether it, or what it is a function of, has one of these names."""
-        return not set(self.name.split("::")).isdisjoint(names)
+        """Whether it, or what it is a function of, has one of these names: `put`, `Maker` or `Maker::put`."""
+        return not {self.name, *self.name.split("::")}.isdisjoint(names)
 
 
 def closed(text, at):
