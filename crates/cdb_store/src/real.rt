@@ -1,6 +1,6 @@
 // The file of the system: the lines that call the system and note what it answered.
-ghost use Rattle.std.specs.Prelude.{◌≡◌, ◌<◌, ◌↔◌, [], ◌∷◌, IfOk, IfErr};
-ghost use Rattle.std.specs.IoError.{error_kind};
+ghost use Rattle.std.specs.Prelude.{◌≡◌, ◌<◌, ◌↔◌, [], ◌∷◌, None, IfOk, IfErr};
+ghost use Rattle.std.specs.IoError.{error_kind, raw_os_error};
 
 use crate::raw::{RawFault, RawFile, note_part};
 use crate::trace::{Call, Trace};
@@ -188,15 +188,18 @@ impl RealFile {
         file
     }
 
-    /// Returns the system's number for its latest error in a raw call, if there was one. A read
-    /// past the end of the file and a write that writes nothing fail without one, and leave the
-    /// number.
-    pub fn last_error(&self) -> Option<i32> {
+    /// Returns the system's number for the error of the last raw call that failed, if it had one. A
+    /// read past the end of the file and a write that writes nothing fail without one.
+    pub fn last_error(&self) -> Option<i32>
+        ensures { result ≡ self.now.error }
+    {
         self.error
     }
 
     /// Returns true if a read failed because the file had changed.
-    pub fn is_changed(&self) -> bool {
+    pub fn is_changed(&self) -> bool
+        ensures { result ≡ self.now.is_changed }
+    {
         self.is_changed
     }
 
@@ -247,8 +250,8 @@ fn fault_of(error: &io::Error) -> RawFault
     }
 }
 
-/// Returns the number of bytes that a read or a write did, at least one, or its fault. It leaves
-/// the system's number for an error in `error`.
+/// Returns the number of bytes that a read or a write did, at least one, or its fault. After a fault
+/// `error` is the system's number for it, or `None` if the system met no error.
 fn part_of(answer: io::Result<usize>, error: &mut Option<i32>) -> Result<usize, RawFault>
     ensures some { IfOk result (λ n. 0 < n) }
     ensures same { IfOk result (λ n. answer ≡ Ok n) }
@@ -256,9 +259,15 @@ fn part_of(answer: io::Result<usize>, error: &mut Option<i32>) -> Result<usize, 
         → result ≡ Err RawFault.Interrupted) }
     ensures interrupt { result ≡ Err RawFault.Interrupted → IfErr answer (λ e.
         error_kind e ≡ ErrorKind.Interrupted) }
+    ensures stays { IfOk result (λ _. error.new ≡ error.old) }
+    ensures none { IfOk answer (λ n. n ≡ 0 → error.new ≡ None) }
+    ensures number { IfErr answer (λ e. error.new ≡ raw_os_error e) }
 {
     match answer {
-        Ok(0) => Err(RawFault::Failed),
+        Ok(0) => {
+            *error = None;
+            Err(RawFault::Failed)
+        }
         Ok(n) => Ok(n),
         Err(met) => {
             *error = met.raw_os_error();

@@ -234,3 +234,23 @@ fn a_file_is_written_and_cut_above_4_gib(rt: HostRuntime) -> Result<(), Fail> {
     assert!(rt; answer == Ok(true) && is_there && is_low);
     Ok(())
 }
+
+/// Writes a byte where no file can have one.
+fn write_too_far<F: RawFile>(file: &mut F)
+    requires { lost (F.calls file.old) ≡ false }
+    ensures { lost (F.calls file.new) ≡ false }
+{
+    let _ = file.write_some(i64::MAX as u64, b"x");
+}
+
+#[test]
+fn a_read_past_the_end_keeps_no_error_of_before(rt: HostRuntime) -> Result<(), Fail> {
+    let mut file = RealFile::create_new(&rt, "empty.store", READ_AND_WRITTEN)?;
+    write_too_far(&mut file);
+    assert!(rt; file.last_error().is_some(), "the write");
+    assert!(rt;
+        !has_byte(&mut file, 0, b'x') && file.last_error().is_none(),
+        "the read"
+    );
+    Ok(())
+}
