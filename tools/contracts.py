@@ -18,15 +18,13 @@ import textwrap
 from dataclasses import dataclass
 
 from edits import OWNER
-from promises import sources
+from promises import exported, sources
 from trees import libraries_of, read
 
 TOP = os.path.normpath(os.path.join(os.path.dirname(os.path.abspath(__file__)), ".."))
 ITEM = re.compile(
     r"^( *)((?:pub(?:\(crate\))? )?)(?:const |unsafe |extern \"C\" )*(fn|struct|enum|trait|type|const) (\w+)", re.MULTILINE
 )
-USED = re.compile(r"^pub use ([\w:]+)::(\{[^}]*\}|\w+);", re.MULTILINE)
-MODULE = re.compile(r"^pub mod (\w+);", re.MULTILINE)
 CLAUSE = re.compile(r"(?:requires|ensures)(?: \w+)? $")
 BRACKETS = {"(": 1, "[": 1, "{": 1, ")": -1, "]": -1, "}": -1}
 
@@ -115,19 +113,6 @@ def items_of(folder):
             yield Item(name, path, public, comment, code)
 
 
-def exports_of(folder):
-    """By each name that the crate's library or a public module gives: the module's path, and from where it comes."""
-    crate, found = os.path.basename(folder), {}
-    if not os.path.exists(os.path.join(folder, "src", "lib.rt")):
-        return found
-    library = read(folder, "src", "lib.rt")
-    modules = {crate: library} | {f"{crate}::{it}": read(folder, "src", f"{it}.rt") for it in MODULE.findall(library)}
-    for module, text in modules.items():
-        for place, names in USED.findall(text):
-            found.update({it: (module, place) for it in re.findall(r"\w+", names)})
-    return found
-
-
 def path_of(folder, item, exports):
     """The path by which a caller names an item, or its name alone if it has none."""
     first = item.name.split("::")[0]
@@ -139,7 +124,7 @@ def path_of(folder, item, exports):
 def contracts(top, crate, names=()):
     """What is printed of a crate: a text for each item."""
     folder = os.path.join(top, "crates", crate)
-    exports, found = exports_of(folder), list(items_of(folder))
+    exports, found = exported(crate, {it: read(folder, it) for it in sources(folder)}), list(items_of(folder))
     for item in found:
         if item.has_name(names) if names else item.public:
             parts = (f"// {path_of(folder, item, exports)}, in {item.path}", item.comment, item.code)

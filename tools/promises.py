@@ -12,6 +12,9 @@ from edits import FUNCTION, OWNER, edits_of, heads_at
 from trees import lines_of, read
 
 PAGE = "docs/audit/PROMISES.md"
+USED = re.compile(r"^pub use ([\w:]+)::(\{[^}]*\}|\w+);", re.MULTILINE)
+MODULE = re.compile(r"^pub mod (\w+);", re.MULTILINE)
+CALLED = re.compile(r"(?<!:)\b([a-z]\w*)::([a-z]\w*)\(")
 LIST = re.compile(r"(<!-- bodies:(\w+) -->\n).*?(<!-- end -->\n)", re.DOTALL)
 
 
@@ -41,14 +44,16 @@ def is_law(path):
     return path.startswith("src/laws")
 
 
-def exported(texts):
-    """What a caller sees of a crate: the items that its library and its public modules name, or what a program's `main` calls."""
+def exported(crate, texts):
+    """By each name that a caller of a crate sees: the path of the module that gives it, and from where it comes there.
+
+    The library and its public modules give names. Of a program they are what its `main` calls."""
     library = texts.get("src/lib.rt")
     if library is None:
-        return set(re.findall(r"(?<!:)\b[a-z]\w*::([a-z]\w*)\(", texts["src/main.rt"]))
-    library += "".join(texts.get(f"src/{it}.rt", "") for it in re.findall(r"^pub mod (\w+);", library, re.MULTILINE))
-    named = re.findall(r"^pub use [\w:]+::(\{[^}]*\}|\w+);", library, re.MULTILINE)
-    return set(re.findall(r"\w+", " ".join(named)))
+        return {name: (crate, place) for place, name in CALLED.findall(texts["src/main.rt"])}
+    modules = {crate: library} | {f"{crate}::{it}": texts.get(f"src/{it}.rt", "") for it in MODULE.findall(library)}
+    found = ((module, place, names) for module, text in modules.items() for place, names in USED.findall(text))
+    return {name: (module, place) for module, place, names in found for name in re.findall(r"\w+", names)}
 
 
 def is_seen(text, head, items):
@@ -62,7 +67,7 @@ def is_seen(text, head, items):
 def list_of(folder):
     """The lists of a crate."""
     texts = {path: read(folder, path) for path in sources(folder)}
-    items, wrong = exported(texts), {}
+    items, wrong = exported(os.path.basename(folder), texts), {}
     for edit in edits_of(folder):
         path, old, _ = edit.pairs[0]
         head = head_of(texts[path], texts[path].index(old)) if path in texts else None

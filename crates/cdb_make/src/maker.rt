@@ -25,7 +25,8 @@ pub(crate) struct Counts {
 /// Makes a database in a store: each record is written as it is put.
 ///
 /// The store holds the records one after another, starting at the end of the head. For each record
-/// the maker keeps its key's hash and its place: 8 bytes, or 12 if words are wide. If a look, or an
+/// the maker keeps its key's hash and its place: 8 bytes, or 12 if words are wide. It requests 8 to
+/// 12 bytes more for its index, which it writes only once a look needs the index. If a look, or an
 /// append to a lazy maker, came before the first record, the maker also keeps a tag of 4 bytes for
 /// each key. Once a record is to go, it keeps a mark of one byte for each record. Records that go
 /// with a later pass have at most half of all records' bytes and 2 MiB more.
