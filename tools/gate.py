@@ -35,6 +35,7 @@ import time
 from build import BYTES_A_SECOND, GATE_DISK, QUIET_SECONDS, checker, interrupt, missing, processors, show_end, work_of
 from edits import FOLDER, edits_of
 from link import links_statically
+from release import is_of_release
 from trees import KEPT, Trees, alone_now, commit_of, files_of, lines_of, read
 from unproved import TESTS, crates_of_tests, floors, program_of
 from wrong import chosen
@@ -310,13 +311,15 @@ class Gate:
 
     def take(self, copy):
         """Takes what `rt ci` left for the tests: the folder of the program and of the C library, if both were made of it.
-        There is no object of a program that an earlier run proved: its crate alone is proved again."""
+        There is no object of a program that an earlier run proved: its crate alone is proved again. So is that of a release,
+        whose object is compared with the one that `make` builds: `rt ci` compiles for the processor that it runs on."""
         take_tests(self.top, copy)
         shutil.rmtree(TESTED, ignore_errors=True)
         os.makedirs(TESTED)
         made = os.path.join(copy, "crates", "cdb")
         built = os.path.join(made, KEPT, "cdb.o")
-        if not os.path.isfile(built) and not self.over(copy, "cdb", built):
+        is_lacking = not os.path.isfile(built) or is_of_release(self.top)
+        if is_lacking and not self.over(copy, "cdb", built):
             return None
         if not links_statically(made, os.path.join(TESTED, "cdb")):
             return None

@@ -45,14 +45,14 @@ class Missing(Exception):
     """Why there is no release of these objects."""
 
 
-def sum_of_sources():
+def sum_of_sources(top=TOP):
     """The sum of all that the program and the C library are made of, their toolchain's name included."""
-    libraries = libraries_of(TOP)
+    libraries = libraries_of(top)
     crates = {it for built in BUILT for it in crates_below(libraries, built)}
     folders = tuple(f"crates/{crate}/{part}/" for crate in crates for part in SOURCES)
-    found = hashlib.sha256(named_toolchain(TOP).encode())
-    for name in sorted(it for it in files_of(TOP) if it.startswith((*folders, *BESIDE))):
-        with open(os.path.join(TOP, name), "rb") as file:
+    found = hashlib.sha256(named_toolchain(top).encode())
+    for name in sorted(it for it in files_of(top) if it.startswith((*folders, *BESIDE))):
+        with open(os.path.join(top, name), "rb") as file:
             found.update(f"{name} {hashlib.sha256(file.read()).hexdigest()}\n".encode())
     return found.hexdigest()
 
@@ -68,14 +68,14 @@ def sums_of(objects):
     return f"{heading(version())}# Sources {sum_of_sources()}.\n{''.join(lines)}"
 
 
-def released():
+def released(top=TOP):
     """The sums of the last release's objects."""
-    return read(TOP, SUMS)
+    return read(top, SUMS)
 
 
-def is_of_release():
-    """Whether this tree has the sources of the last release."""
-    return f"{heading(version())}# Sources {sum_of_sources()}.\n" in released()
+def is_of_release(top=TOP):
+    """Whether a tree has the sources of the last release. One file of them is VERSION."""
+    return os.path.exists(os.path.join(top, SUMS)) and f"# Sources {sum_of_sources(top)}.\n" in released(top)
 
 
 def read_all(paths):
