@@ -1,5 +1,5 @@
 -- A create in a temporary file comes to what the oracle says.
-use Rattle.cdb.proofs.Words.{AllByRecursion, Appends, AppendsPrefix, AsksAll, Calls, Created, Disk, Err, Fault, Ghosts, HadBytes, HandsBack, Has, HoldsAll, InputsLeft, IsBufferedRun, IsNoFailedRemoval, IsNoFailedRename, Keeps, Keeps-refl, KeepsAll, LeavesAll, List, Made, Making, MayHave, NameCall, NameCalls, None, Ok, OnErr, OnOk, OpenCalls, Option, ReplaceFault, Replaces, Result, RunOptions, Some, [], answer_of, ap, append_assoc, arith, bytes_eq, calls_of, create_of, false, in_place, in_temporary, inl, inr, is_in_place, is_no_name, is_read, is_standard, length, length-append, made_file, made_lines, made_of, passing, place_of, placed, refl, state_of, subst, sym, temporary_of, true, unopened, ℕ, ◌++◌, ◌||◌, ◌∙◌, ◌∷◌, ◌≡◌, ◌≢◌, ◌⊎◌}
+use Rattle.cdb.proofs.Words.{AllByRecursion, Appends, AppendsPrefix, AsksAll, Calls, Created, Disk, Err, Fault, Ghosts, HadBytes, HandsBack, Has, HoldsAll, InputsTaken, IsBufferedRun, IsNoFailedRemoval, IsNoFailedRename, Keeps, Keeps-refl, KeepsAll, LeavesAll, List, Made, Making, MayHave, NameCall, NameCalls, None, Ok, OnErr, OnOk, OpenCalls, Option, ReplaceFault, Replaces, Result, RunOptions, Some, [], answer_of, ap, append_assoc, arith, bytes_eq, calls_of, create_of, false, in_place, in_temporary, inl, inr, is_in_place, is_no_name, is_read, is_standard, length, length-append, made_file, made_lines, made_of, passing, place_of, placed, refl, state_of, subst, sym, temporary_of, true, unopened, ℕ, ◌++◌, ◌||◌, ◌∙◌, ◌∷◌, ◌≡◌, ◌≢◌, ◌⊎◌}
 use Rattle.std.proofs.lemmas.Bool.{eqb-true, cond-true, cond-false, or_right, cases_Bool}
 use Rattle.cdb_names.specs.declared.replace.ReplaceFault.TheVariants as replace
 use Rattle.cdb_names.specs.Replacing.{AtEach, AtEachMoment, ClearsFile, IsNoName, BuilderTells, IsRenamed, renames}
@@ -157,7 +157,7 @@ failed_so w disk t name o made was asked now told said (Err f) first a so = λ t
 passing_temporary : (name : List ℕ) (temporary : Option (List ℕ)) → is_standard name ≡ false → is_in_place name temporary ≡ false → passing name temporary ≡ Some (temporary_of name temporary)
 passing_temporary name temporary standard in_place = cond-false (is_standard name) _ _ standard ∙ cond-false (is_in_place name temporary) _ _ in_place
 
-named_so : {F M R : Type 0} (s : Ghosts F) (m : Ghosts M) (r : Raw R) (w g : ℕ) (disk : Disk) (input name : List ℕ) (base : Option (List ℕ)) (inputs : List (List ℕ)) (temporary : Option (List ℕ)) (o : RunOptions) (mid new : OpenCalls) (file read : Option F) (left : InputsLeft) (was asked now : NameCalls) (start end told said : Option (List ℕ)) (result : Result Unit Fault)
+named_so : {F I J M R : Type 0} (s : Ghosts F) (m : Ghosts M) (r : Raw R) (w g : ℕ) (disk : Disk) (input name : List ℕ) (base : Option (List ℕ)) (inputs : List (List ℕ)) (temporary : Option (List ℕ)) (o : RunOptions) (mid new : OpenCalls) (file read : Option F) (left : InputsTaken I J) (was asked now : NameCalls) (start end told said : Option (List ℕ)) (result : Result Unit Fault)
     → is_standard name ≡ false → is_in_place name temporary ≡ false → is_no_name name ≡ false → HandsBack s file read → Knows s w disk base inputs input file read left → AnsweredNames disk name was now → Keeps start end → AsksAll (temporary_of name temporary) base inputs was asked
     → Replaces s r (record { word = w; greatest = g; options = o; base = file; inputs = left }) (temporary_of name temporary) name (state_of mid asked start told) (state_of new now end said) read result
     → CreateSo m disk name temporary o (create_of w g disk input name base inputs temporary o.make) [] was now None start end told said result
@@ -170,7 +170,7 @@ named_so s m r w g disk input name base inputs temporary o mid new file read lef
     let made = made_of w g o.make known.old known.files input in
     let is = oracle_is s w g disk input name base inputs temporary o read left known standard in_place question.other named made refl in
     let zero : renames asked ≡ 0 = question.renamed ∙ ap renames honest.first in
-    let mk : Making _ = record { word = w; greatest = g; options = o; base = file; inputs = left } in
+    let mk : Making _ _ _ = record { word = w; greatest = g; options = o; base = file; inputs = left } in
     let so = replaces_so s r mk known.old known.files input t name asked now read told said result apart zero known.has known.known replaces in
     let moments = moments_so w disk t name o made _ was asked now told said result apart is honest.first (asking_all t base inputs was asked asks) so in
     let all = last_leaves disk _ (Some t) was now moments in
@@ -190,7 +190,7 @@ no_name_is (c ∷ d ∷ name) e = elim (no_name_is (d ∷ name) e) [
   | inr (front, is) ↦ inr (c ∷ front, ap (λ x. c ∷ x) is)
 ]
 
-no_name_unopened : {F : Type 0} (s : Ghosts F) (w g : ℕ) (disk : Disk) (input name : List ℕ) (base : Option (List ℕ)) (inputs : List (List ℕ)) (temporary : Option (List ℕ)) (o : RunOptions) (read : Option F) (left : InputsLeft) → AllKnown s w disk base inputs input read left → is_standard name ≡ false → is_in_place name temporary ≡ false → is_no_name name ≡ true
+no_name_unopened : {F I J : Type 0} (s : Ghosts F) (w g : ℕ) (disk : Disk) (input name : List ℕ) (base : Option (List ℕ)) (inputs : List (List ℕ)) (temporary : Option (List ℕ)) (o : RunOptions) (read : Option F) (left : InputsTaken I J) → AllKnown s w disk base inputs input read left → is_standard name ≡ false → is_in_place name temporary ≡ false → is_no_name name ≡ true
     → create_of w g disk input name base inputs temporary o.make ≡ unopened disk
 no_name_unopened s w g disk input name base inputs temporary o read left k standard in_place is =
     based_is s w disk input base inputs read left (λ old files. placed w disk name base inputs temporary (made_of w g o.make old files input)) k
@@ -202,14 +202,14 @@ not_cleared : (t : List ℕ) (file : Calls) (asked now : NameCalls) → now ≡ 
 not_cleared t file asked now same (before, (since, on), (gone, removal, are)) =
     omega (arith, ap length same, ap length on, ap length are, length-append since asked)
 
-silent_so : {F R : Type 0} (s : Ghosts F) (r : Raw R) (mk : Making F) (temporary name : List ℕ) (asked now : NameCalls) (back : Option F) (told said : Option (List ℕ)) (answer : Result Unit (ReplaceFault Fault)) → now ≡ asked → answer ≡ Err replace.Open
+silent_so : {F I J R : Type 0} (s : Ghosts F) (r : Raw R) (mk : Making F I J) (temporary name : List ℕ) (asked now : NameCalls) (back : Option F) (told said : Option (List ℕ)) (answer : Result Unit (ReplaceFault Fault)) → now ≡ asked → answer ≡ Err replace.Open
     → BuilderTells r (λ base. base ≡ mk.base) (λ base before after images made. IsBufferedRun s mk base images before after made) temporary name asked now back told said answer → Keeps told said
 silent_so s r mk t name asked now back told said answer same is (inl none) = subst (λ v. Keeps told v) (sym none.same) (Keeps-refl told)
 silent_so s r mk t name asked now back told said answer same is (inr some) =
     absurd (not_cleared t (calls_of some.sealed) asked now same (subst (λ v. OnErr v (ClearsFile t (calls_of some.sealed) asked now)) is some.cleared))
 
 -- nothing is done for it
-no_name_so : {F M R : Type 0} {mid new : OpenCalls} (s : Ghosts F) (m : Ghosts M) (r : Raw R) (w g : ℕ) (disk : Disk) (input name : List ℕ) (base : Option (List ℕ)) (inputs : List (List ℕ)) (temporary : Option (List ℕ)) (o : RunOptions) (mk : Making F) (read : Option F) (left : InputsLeft) (was asked now : NameCalls) (start end told said : Option (List ℕ)) (result : Result Unit Fault)
+no_name_so : {F I J M R : Type 0} {mid new : OpenCalls} (s : Ghosts F) (m : Ghosts M) (r : Raw R) (w g : ℕ) (disk : Disk) (input name : List ℕ) (base : Option (List ℕ)) (inputs : List (List ℕ)) (temporary : Option (List ℕ)) (o : RunOptions) (mk : Making F I J) (read : Option F) (left : InputsTaken I J) (was asked now : NameCalls) (start end told said : Option (List ℕ)) (result : Result Unit Fault)
     → is_standard name ≡ false → is_in_place name temporary ≡ false → is_no_name name ≡ true → AllKnown s w disk base inputs input read left → was ≡ [] → Keeps start end → AsksAll (temporary_of name temporary) base inputs was asked → Replaces s r mk (temporary_of name temporary) name (state_of mid asked start told) (state_of new now end said) read result
     → CreateSo m disk name temporary o (create_of w g disk input name base inputs temporary o.make) [] was now None start end told said result
 no_name_so s m r w g disk input name base inputs temporary o mk read left was asked now start end told said result standard in_place is known first kept asks replaces =
@@ -223,7 +223,7 @@ no_name_so s m r w g disk input name base inputs temporary o mk read left was as
           (open_so o c disk start end told said (no_name_unopened s w g disk input name base inputs temporary o read left known standard in_place is) (kept, silent))))
     ]
 
-pub replacing_so : {F M R : Type 0} (s : Ghosts F) (m : Ghosts M) (r : Raw R) (w g : ℕ) (disk : Disk) (input name : List ℕ) (base : Option (List ℕ)) (inputs : List (List ℕ)) (temporary : Option (List ℕ)) (o : RunOptions) (mid new : OpenCalls) (file read : Option F) (left : InputsLeft) (was asked now : NameCalls) (start end told said : Option (List ℕ)) (result : Result Unit Fault)
+pub replacing_so : {F I J M R : Type 0} (s : Ghosts F) (m : Ghosts M) (r : Raw R) (w g : ℕ) (disk : Disk) (input name : List ℕ) (base : Option (List ℕ)) (inputs : List (List ℕ)) (temporary : Option (List ℕ)) (o : RunOptions) (mid new : OpenCalls) (file read : Option F) (left : InputsTaken I J) (was asked now : NameCalls) (start end told said : Option (List ℕ)) (result : Result Unit Fault)
     → is_standard name ≡ false → is_in_place name temporary ≡ false → HandsBack s file read → Knows s w disk base inputs input file read left → AnsweredNames disk name was now → Keeps start end → AsksAll (temporary_of name temporary) base inputs was asked
     → Replaces s r (record { word = w; greatest = g; options = o; base = file; inputs = left }) (temporary_of name temporary) name (state_of mid asked start told) (state_of new now end said) read result
     → CreateSo m disk name temporary o (create_of w g disk input name base inputs temporary o.make) [] was now None start end told said result

@@ -1,6 +1,6 @@
 -- What a create comes to that makes nothing, and what each name has then.
 use Rattle.cdb.proofs.CreateTaken.{MayGiveUpCreate}
-use Rattle.cdb.proofs.Words.{AllByRecursion, Answer, Appends, AppendsPrefix, AtEach, AtEachMoment, Bool, Err, Fault, Feed, Ghosts, HandsBack, Has, InputsLeft, Keeps, List, Made, MayHave, NameCalls, NameFault, None, Ok, OnErr, OnOk, OpenCalls, Option, Result, RunOptions, Some, State, [], ap, append_assoc, append_cancel_right, arith, bytes_eq, bytes_eq-Decides, codes, false, files_of, inl, inr, length, length-append, made_file, made_lines, made_of, option_map, refl, subst, sym, temporary_of, true, ℕ, ◌++◌, ◌||◌, ◌∙◌, ◌∷◌, ◌≡◌, ◌≢◌, ◌⊎◌}
+use Rattle.cdb.proofs.Words.{AllByRecursion, Answer, Appends, AppendsPrefix, AtEach, AtEachMoment, Bool, Err, Fault, Feed, Ghosts, HandsBack, Has, InputsTaken, Keeps, List, Made, MayHave, NameCalls, NameFault, None, Ok, OnErr, OnOk, OpenCalls, Option, Result, RunOptions, Some, State, [], ap, append_assoc, append_cancel_right, arith, bytes_eq, bytes_eq-Decides, codes, false, files_of, inl, inr, length, length-append, made_file, made_lines, made_of, option_map, refl, subst, sym, temporary_of, true, ℕ, ◌++◌, ◌||◌, ◌∙◌, ◌∷◌, ◌≡◌, ◌≢◌, ◌⊎◌}
 use Rattle.cdb_system.specs.Opening.{unopened as unopened_fault}
 use Rattle.std.proofs.lemmas.Bool.{cond-true, cond-false, false_from_ne_true, or_from, or_left, or_parts, or_right}
 use Rattle.cdb_names.specs.declared.answer.Answer.TheVariants as looks
@@ -25,14 +25,14 @@ use Rattle.cdb_system.proofs.InputsKnown.{answered_before, opened_since, standar
 -- ---- the oracle
 
 -- of all that is read, if it is there and no base is refused
-pub based_is : {F : Type 0} (s : Ghosts F) (w : ℕ) (disk : Disk) (input : List ℕ) (base : Option (List ℕ)) (inputs : List (List ℕ)) (read : Option F) (left : InputsLeft) (f : Option (List ℕ) → List (Option (List ℕ)) → Created) → (k : AllKnown s w disk base inputs input read left)
+pub based_is : {F I J : Type 0} (s : Ghosts F) (w : ℕ) (disk : Disk) (input : List ℕ) (base : Option (List ℕ)) (inputs : List (List ℕ)) (read : Option F) (left : InputsTaken I J) (f : Option (List ℕ) → List (Option (List ℕ)) → Created) → (k : AllKnown s w disk base inputs input read left)
     → if_based disk (base_of w disk base) (λ old. if_opened disk (option_map (f old) (inputs_of disk inputs))) ≡ f k.old k.files
 based_is s w disk input base inputs read left f k =
     ap (λ x. if_based disk x (λ old. if_opened disk (option_map (f old) (inputs_of disk inputs)))) k.base_is
     ∙ ap (λ x. if_opened disk (option_map (f k.old) x)) k.are
 
 -- it is made in its temporary file of all that is read
-pub oracle_is : {F : Type 0} (s : Ghosts F) (w g : ℕ) (disk : Disk) (input name : List ℕ) (base : Option (List ℕ)) (inputs : List (List ℕ)) (temporary : Option (List ℕ)) (o : RunOptions) (read : Option F) (left : InputsLeft) → (k : AllKnown s w disk base inputs input read left) → is_standard name ≡ false → is_in_place name temporary ≡ false → is_read (temporary_of name temporary) base inputs ≡ false → is_no_name name ≡ false
+pub oracle_is : {F I J : Type 0} (s : Ghosts F) (w g : ℕ) (disk : Disk) (input name : List ℕ) (base : Option (List ℕ)) (inputs : List (List ℕ)) (temporary : Option (List ℕ)) (o : RunOptions) (read : Option F) (left : InputsTaken I J) → (k : AllKnown s w disk base inputs input read left) → is_standard name ≡ false → is_in_place name temporary ≡ false → is_read (temporary_of name temporary) base inputs ≡ false → is_no_name name ≡ false
     → (made : Made) → made ≡ made_of w g o.make k.old k.files input → create_of w g disk input name base inputs temporary o.make ≡ in_temporary disk (temporary_of name temporary) name (made_lines made) (made_file w made) made.result
 oracle_is s w g disk input name base inputs temporary o read left k standard placed_in other named made is =
     based_is s w disk input base inputs read left (λ old files. placed w disk name base inputs temporary (made_of w g o.make old files input)) k
@@ -92,7 +92,7 @@ pub record AnsweredNames (disk : Disk) (name : List ℕ) (was now : NameCalls) :
   pub has : Has (place_of name) (disk name) now held
 
 -- all that is read is known, if the base is returned
-abbrev pub Knows : {F : Type 0} → Ghosts F → (w : ℕ) → Disk → (base : Option (List ℕ)) → (inputs : List (List ℕ)) → (input : List ℕ) → (file read : Option F) → InputsLeft → Type 0
+abbrev pub Knows : {F I J : Type 0} → Ghosts F → (w : ℕ) → Disk → (base : Option (List ℕ)) → (inputs : List (List ℕ)) → (input : List ℕ) → (file read : Option F) → InputsTaken I J → Type 0
 Knows s w disk base inputs input file read items = HandsBack s file read → AllKnown s w disk base inputs input read items
 
 pub same_name : (a b : List ℕ) → bytes_eq a b ≡ true → a ≡ b
@@ -315,7 +315,7 @@ found name base inputs was now (inr (mid, asks, more)) all =
     let f = found_input name (inputs_read inputs) mid now more all in
     record { one = or_right _ _ (sym (read_input name inputs) ∙ f.one); kept = λ place first held may. base_kept name base was mid asks place first held (f.kept place first held may) }
 
-pub read_unopened : {F : Type 0} (s : Ghosts F) (w g : ℕ) (disk : Disk) (input name : List ℕ) (base : Option (List ℕ)) (inputs : List (List ℕ)) (temporary : Option (List ℕ)) (o : RunOptions) (read : Option F) (left : InputsLeft) → AllKnown s w disk base inputs input read left → is_standard name ≡ false → is_in_place name temporary ≡ false → is_read (temporary_of name temporary) base inputs ≡ true
+pub read_unopened : {F I J : Type 0} (s : Ghosts F) (w g : ℕ) (disk : Disk) (input name : List ℕ) (base : Option (List ℕ)) (inputs : List (List ℕ)) (temporary : Option (List ℕ)) (o : RunOptions) (read : Option F) (left : InputsTaken I J) → AllKnown s w disk base inputs input read left → is_standard name ≡ false → is_in_place name temporary ≡ false → is_read (temporary_of name temporary) base inputs ≡ true
     → create_of w g disk input name base inputs temporary o.make ≡ unopened disk
 read_unopened s w g disk input name base inputs temporary o read left k standard in_place is =
     based_is s w disk input base inputs read left (λ old files. placed w disk name base inputs temporary (made_of w g o.make old files input)) k
@@ -325,7 +325,7 @@ read_unopened s w g disk input name base inputs temporary o read left k standard
 pub hands_unread : {F : Type 0} (s : Ghosts F) (base back : Option F) → back ≡ base → HandsBack s base back
 hands_unread s base back e = subst (HandsBack s base) (sym e) (hands_self s base)
 
-pub back_hands : {F R : Type 0} (s : Ghosts F) (r : Raw R) (m : Making F) (temporary name : List ℕ) (old new : State OpenCalls) (back : Option F) (result : Result Unit Fault) → Replaces s r m temporary name old new back result → HandsBack s m.base back
+pub back_hands : {F I J R : Type 0} (s : Ghosts F) (r : Raw R) (m : Making F I J) (temporary name : List ℕ) (old new : State OpenCalls) (back : Option F) (result : Result Unit Fault) → Replaces s r m temporary name old new back result → HandsBack s m.base back
 back_hands s r m temporary name old new back result h = elim h.lines [
   | inl none ↦ hands_unread s m.base back none.gave_up
   | inr some ↦ elim some.tells_so [ inl ran ↦ ran.hands | inr lacks ↦ hands_unread s m.base back lacks.0 ]

@@ -1,6 +1,6 @@
 -- A create in place, and one on standard output, come to what the oracle says.
 use Rattle.cdb.proofs.CreateTaken.{MayGiveUpCreate}
-use Rattle.cdb.proofs.Words.{AllByRecursion, Answer, Appends, AppendsPrefix, Disk, Err, Fault, Feed, Ghosts, HandsBack, IfErr, InputsLeft, IsNew, Keeps, Known, Left, List, Made, NameCalls, NameFault, None, Ok, OnErr, OnOk, Option, Result, RunOptions, Some, [], ap, bytes_eq, cond-false, cond-true, false, files_of, inl, inr, is_standard, made_file, made_lines, made_of, refl, state_of, subst, sym, true, ℕ, ◌∙◌, ◌≡◌, ◌⊎◌}
+use Rattle.cdb.proofs.Words.{AllByRecursion, Answer, Appends, AppendsPrefix, Disk, Err, Fault, Feed, Ghosts, HandsBack, IfErr, InputsTaken, IsNew, Keeps, Left, List, Made, NameCalls, NameFault, None, Ok, OnErr, OnOk, Option, Result, RunOptions, Some, [], ap, bytes_eq, cond-false, cond-true, false, files_of, inl, inr, is_standard, made_file, made_lines, made_of, refl, state_of, subst, sym, true, ℕ, ◌∙◌, ◌≡◌, ◌⊎◌}
 use Rattle.cdb_store.specs.Contents.{contents}
 use Rattle.cdb_store.specs.contracts.memory.MemStoreStore.TheImpl.{ghosts as in_memory}
 use Rattle.cdb_store.specs.declared.memory.MemStore.{MemStore}
@@ -13,13 +13,14 @@ use Rattle.cdb.specs.Creating.{HasDatabase, IsBufferedRun, IsMakeRun, MakesEmpti
 use Rattle.cdb.specs.ForetoldCreate.{HoldsAll, IsNamed, IsNoFailedRename, KeepsAll, passing}
 use Rattle.cdb_system.specs.Opening.{Empties, MissesEmptying, OpenCalls, named_as, unopened as unopened_fault}
 use Rattle.cdb_system.specs.declared.system.System.{Ghosts as Systems}
+use Rattle.cdb.proofs.Agreeing.{InputsAgree}
 use Rattle.cdb.proofs.Replaced.{BaseHas, EndsSo, IsPlain, WasRefused, database_is, made_here, ran_err, ran_ok, whole_lines, none_appended, said_nothing}
 use Rattle.cdb.proofs.CreateReads.{AllKnown, Asking, asked_all, asking_all, asking_none, moments_first}
 use Rattle.cdb.proofs.CreateEnds.{AnsweredNames, Knows, Came, CameTrue, CreateSo, GaveUp, based_is, hands_unread, has_first, holds_first, keeps_first, same_name}
 
 -- ---- in place
 
-in_place_is : {F : Type 0} (s : Ghosts F) (w g : ℕ) (disk : Disk) (input name : List ℕ) (base : Option (List ℕ)) (inputs : List (List ℕ)) (temporary : Option (List ℕ)) (o : RunOptions) (read : Option F) (left : InputsLeft) → (k : AllKnown s w disk base inputs input read left) → is_standard name ≡ false → is_in_place name temporary ≡ true → is_read name base inputs ≡ false
+in_place_is : {F I J : Type 0} (s : Ghosts F) (w g : ℕ) (disk : Disk) (input name : List ℕ) (base : Option (List ℕ)) (inputs : List (List ℕ)) (temporary : Option (List ℕ)) (o : RunOptions) (read : Option F) (left : InputsTaken I J) → (k : AllKnown s w disk base inputs input read left) → is_standard name ≡ false → is_in_place name temporary ≡ true → is_read name base inputs ≡ false
     → (made : Made) → made ≡ made_of w g o.make k.old k.files input → create_of w g disk input name base inputs temporary o.make ≡ in_place disk name (made_lines made) (made_file w made) made.result
 in_place_is s w g disk input name base inputs temporary o read left k standard placed_in other made is =
     based_is s w disk input base inputs read left (λ old files. placed w disk name base inputs temporary (made_of w g o.make old files input)) k
@@ -28,7 +29,7 @@ in_place_is s w g disk input name base inputs temporary o read left k standard p
     ∙ cond-false (is_read name base inputs) _ _ other
     ∙ ap (λ v. in_place disk name (made_lines v) (made_file w v) v.result) (sym is)
 
-pub in_place_unopened : {F : Type 0} (s : Ghosts F) (w g : ℕ) (disk : Disk) (input name : List ℕ) (base : Option (List ℕ)) (inputs : List (List ℕ)) (temporary : Option (List ℕ)) (o : RunOptions) (read : Option F) (left : InputsLeft) → AllKnown s w disk base inputs input read left → is_standard name ≡ false → is_in_place name temporary ≡ true → is_read name base inputs ≡ true
+pub in_place_unopened : {F I J : Type 0} (s : Ghosts F) (w g : ℕ) (disk : Disk) (input name : List ℕ) (base : Option (List ℕ)) (inputs : List (List ℕ)) (temporary : Option (List ℕ)) (o : RunOptions) (read : Option F) (left : InputsTaken I J) → AllKnown s w disk base inputs input read left → is_standard name ≡ false → is_in_place name temporary ≡ true → is_read name base inputs ≡ true
     → create_of w g disk input name base inputs temporary o.make ≡ unopened disk
 in_place_unopened s w g disk input name base inputs temporary o read left k standard placed_in is =
     based_is s w disk input base inputs read left (λ old files. placed w disk name base inputs temporary (made_of w g o.make old files input)) k
@@ -62,7 +63,7 @@ store_new : (images : List ℕ → Type 0) (file : List ℕ) (ok : Type 0) (held
 store_new images file ok None each h = absurd h
 store_new images file ok (Some b) each h = (ap (λ (z : List ℕ). Some z) (each b h).0, (each b h).1)
 
-place_holds : {F M : Type 0} (s : Ghosts F) (m : Ghosts M) (disk : Disk) (name : List ℕ) (mk : Making F) (x : Option (List ℕ)) (files : List (Option (List ℕ))) (input : List ℕ) (back : Option F) (last : M) (c : Created) (opened : OpenCalls) (was now : NameCalls) → IsNamed name opened → was ≡ [] → Asking was now → BaseHas s back x → Known files input mk.inputs
+place_holds : {F I J M : Type 0} (s : Ghosts F) (m : Ghosts M) (disk : Disk) (name : List ℕ) (mk : Making F I J) (x : Option (List ℕ)) (files : List (Option (List ℕ))) (input : List ℕ) (back : Option F) (last : M) (c : Created) (opened : OpenCalls) (was now : NameCalls) → IsNamed name opened → was ≡ [] → Asking was now → BaseHas s back x → InputsAgree files input mk.inputs
     → c ≡ in_place disk name (made_lines (made_here mk x files input)) (made_file mk.word (made_here mk x files input)) (made_here mk x files input).result → HasDatabase s mk back (m.image last) → HoldsAll m disk name (Some last) opened now c
 place_holds s m disk name mk x files input back last c opened was now named first a has known is database = λ other held sure h. elim h [
   | inl here ↦ (let v = made_here mk x files input in
@@ -84,8 +85,8 @@ SyncedSo m disk name o c opened now last start end told said result =
     (CameTrue o c start end told said result × (OnOk result (IsNamed name opened) → HoldsAll m disk name (Some last) opened now c)) ⊎ GaveUp o c start end told said result
 
 -- what came of the run, and of its sync
-synced_so : {F M : Type 0} (s : Ghosts F) (m : Ghosts M) (disk : Disk) (name : List ℕ) (mk : Making F) (x : Option (List ℕ)) (files : List (Option (List ℕ))) (input : List ℕ) (back : Option F) (built last : M) (c : Created) (opened : OpenCalls) (was now : NameCalls) (start end told said : Option (List ℕ)) (made result : Result Unit Fault) (b : List ℕ)
-    → was ≡ [] → Asking was now → BaseHas s back x → Known files input mk.inputs → c ≡ in_place disk name (made_lines (made_here mk x files input)) (made_file mk.word (made_here mk x files input)) (made_here mk x files input).result → Keeps start end
+synced_so : {F I J M : Type 0} (s : Ghosts F) (m : Ghosts M) (disk : Disk) (name : List ℕ) (mk : Making F I J) (x : Option (List ℕ)) (files : List (Option (List ℕ))) (input : List ℕ) (back : Option F) (built last : M) (c : Created) (opened : OpenCalls) (was now : NameCalls) (start end told said : Option (List ℕ)) (made result : Result Unit Fault) (b : List ℕ)
+    → was ≡ [] → Asking was now → BaseHas s back x → InputsAgree files input mk.inputs → c ≡ in_place disk name (made_lines (made_here mk x files input)) (made_file mk.word (made_here mk x files input)) (made_here mk x files input).result → Keeps start end
     → IsBufferedRun s mk back (m.image built) told said made → Syncs m built last made result → OnOk result (HasDatabase s mk back (m.image last)) → m.image last b → SyncedSo m disk name mk.options c opened now last start end told said result
 synced_so s m disk name mk x files input back built last c opened was now start end told said (Ok done) result b first a has known is kept run syncs database image =
     let v = made_here mk x files input in
@@ -149,11 +150,11 @@ emptying_refused name old new fault (inr (inl held)) = subst MayGiveUpCreate (sy
 emptying_refused name old new fault (inr (inr (inl (answer, asks, is)))) = unnamed_refused answer fault is
 emptying_refused name old new fault (inr (inr (inr (locked, takes, misses)))) = subst MayGiveUpCreate (sym misses.is) (opening_refused misses.why)
 
-back_of : {F : Type 0} (s : Ghosts F) (mk : Making F) (back : Option F) (images : List ℕ → Type 0) (told said : Option (List ℕ)) (made : Result Unit Fault) → IsBufferedRun s mk back images told said made → HandsBack s mk.base back
+back_of : {F I J : Type 0} (s : Ghosts F) (mk : Making F I J) (back : Option F) (images : List ℕ → Type 0) (told said : Option (List ℕ)) (made : Result Unit Fault) → IsBufferedRun s mk back images told said made → HandsBack s mk.base back
 back_of s mk back images told said made (inl ran) = ran.hands
 back_of s mk back images told said made (inr lacks) = hands_unread s mk.base back lacks.0
 
-place_done : {F M : Type 0} (s : Ghosts F) (m : Ghosts M) (disk : Disk) (name : List ℕ) (mk : Making F) (x : Option (List ℕ)) (files : List (Option (List ℕ))) (input : List ℕ) (back : Option F) (last : M) (c : Created) (emptied opened : OpenCalls) (was now : NameCalls) (synced result : Result Unit Fault) → was ≡ [] → Asking was now → BaseHas s back x → Known files input mk.inputs
+place_done : {F I J M : Type 0} (s : Ghosts F) (m : Ghosts M) (disk : Disk) (name : List ℕ) (mk : Making F I J) (x : Option (List ℕ)) (files : List (Option (List ℕ))) (input : List ℕ) (back : Option F) (last : M) (c : Created) (emptied opened : OpenCalls) (was now : NameCalls) (synced result : Result Unit Fault) → was ≡ [] → Asking was now → BaseHas s back x → InputsAgree files input mk.inputs
     → c ≡ in_place disk name (made_lines (made_here mk x files input)) (made_file mk.word (made_here mk x files input)) (made_here mk x files input).result → OnOk synced (HasDatabase s mk back (m.image last)) → SeesName name emptied opened synced result → OnOk result (HoldsAll m disk name (Some last) opened now c)
 place_done s m disk name mk x files input back last c emptied opened was now (Ok done) result first a has known is database (Yes, calls, e) = subst (λ r. OnOk r (HoldsAll m disk name (Some last) opened now c)) (sym e) (place_holds s m disk name mk x files input back last c opened was now (emptied, calls) first a has known is database)
 place_done s m disk name mk x files input back last c emptied opened was now (Ok done) result first a has known is database (No, calls, e) = subst (λ r. OnOk r (HoldsAll m disk name (Some last) opened now c)) (sym e) tt
@@ -164,11 +165,11 @@ if_err : (P : Type 0) (result : Result Unit Fault) → P → OnErr result P
 if_err P (Ok done) p = tt
 if_err P (Err f) p = p
 
-pub emptied_so : {F I J M N R Y : Type 0} (s : Ghosts F) (m : Ghosts M) (feed : I → Feed) (y : Systems Y F I M J N R) (w g : ℕ) (disk : Disk) (input name : List ℕ) (base : Option (List ℕ)) (inputs : List (List ℕ)) (temporary : Option (List ℕ)) (o : RunOptions) (mid emptied new : OpenCalls) (file : Option F) (items : InputsLeft) (left : Left F M I J) (was now : NameCalls) (start end told said : Option (List ℕ)) (result : Result Unit Fault)
+pub emptied_so : {F I J M N R Y : Type 0} (s : Ghosts F) (m : Ghosts M) (feed : I → Feed) (y : Systems Y F I M J N R) (w g : ℕ) (disk : Disk) (input name : List ℕ) (base : Option (List ℕ)) (inputs : List (List ℕ)) (temporary : Option (List ℕ)) (o : RunOptions) (mid emptied new : OpenCalls) (file : Option F) (items : InputsTaken I J) (left : Left F M I J) (was now : NameCalls) (start end told said : Option (List ℕ)) (result : Result Unit Fault)
     → is_standard name ≡ false → is_in_place name temporary ≡ true → Knows s w disk base inputs input file left.read items → AnsweredNames disk name was now → Keeps start end → AsksAll name base inputs was now → Empties name mid emptied
     → MakesEmptied (files_of s m feed y) (record { word = w; greatest = g; options = o; base = file; inputs = items }) name emptied (state_of mid was start told) (state_of new now end said) left result → CreateSo m disk name temporary o (create_of w g disk input name base inputs temporary o.make) new was now left.made start end told said result
 emptied_so s m feed y w g disk input name base inputs temporary o mid emptied new file items left was now start end told said result standard placed_in knows honest kept asks empties h =
-    let mk : Making _ = record { word = w; greatest = g; options = o; base = file; inputs = items } in
+    let mk : Making _ _ _ = record { word = w; greatest = g; options = o; base = file; inputs = items } in
     let known = knows (back_of s mk left.read (m.image h.built) told said h.made h.run) in
     let question = asked_all name base inputs was now asks honest.alone in
     let a = asking_all name base inputs was now asks in
@@ -184,7 +185,7 @@ emptied_so s m feed y w g disk input name base inputs temporary o mid emptied ne
 
 -- ---- on standard output
 
-output_is : {F : Type 0} (s : Ghosts F) (w g : ℕ) (disk : Disk) (input name : List ℕ) (base : Option (List ℕ)) (inputs : List (List ℕ)) (temporary : Option (List ℕ)) (o : RunOptions) (read : Option F) (left : InputsLeft) → (k : AllKnown s w disk base inputs input read left) → is_standard name ≡ true
+output_is : {F I J : Type 0} (s : Ghosts F) (w g : ℕ) (disk : Disk) (input name : List ℕ) (base : Option (List ℕ)) (inputs : List (List ℕ)) (temporary : Option (List ℕ)) (o : RunOptions) (read : Option F) (left : InputsTaken I J) → (k : AllKnown s w disk base inputs input read left) → is_standard name ≡ true
     → (made : Made) → made ≡ made_of w g o.make k.old k.files input → create_of w g disk input name base inputs temporary o.make ≡ on_output disk (made_lines made) (made_file w made) made.result
 output_is s w g disk input name base inputs temporary o read left k standard made is =
     based_is s w disk input base inputs read left (λ old files. placed w disk name base inputs temporary (made_of w g o.make old files input)) k
@@ -244,7 +245,7 @@ unwritten_so w disk o v c start end told said f result is same kept (inr r) = in
 some_bytes : (a b : List ℕ) → ◌≡◌ {A = Option (List ℕ)} (Some a) (Some b) → a ≡ b
 some_bytes a b e = cc
 
-made_written : {F : Type 0} (s : Ghosts F) (mk : Making F) (x : Option (List ℕ)) (files : List (Option (List ℕ))) (input : List ℕ) (back : Option F) (disk : Disk) (c : Created) (store : MemStore) (start end told said : Option (List ℕ)) (made result : Result Unit Fault) → BaseHas s back x → Known files input mk.inputs
+made_written : {F I J : Type 0} (s : Ghosts F) (mk : Making F I J) (x : Option (List ℕ)) (files : List (Option (List ℕ))) (input : List ℕ) (back : Option F) (disk : Disk) (c : Created) (store : MemStore) (start end told said : Option (List ℕ)) (made result : Result Unit Fault) → BaseHas s back x → InputsAgree files input mk.inputs
     → c ≡ on_output disk (made_lines (made_here mk x files input)) (made_file mk.word (made_here mk x files input)) (made_here mk x files input).result → IsMakeRun s mk back (in_memory.image store) told said made → OnOk made (WritesAll start end (contents store) result) → IfErr made (λ fault. (result ≡ Err fault) × Keeps start end)
     → Wrote mk.options c start end told said result
 made_written s mk x files input back disk c store start end told said (Ok done) result has known is run written failed =
@@ -258,11 +259,11 @@ if_ok : (P : Type 0) (result : Result Unit Fault) → P → OnOk result P
 if_ok P (Ok done) p = p
 if_ok P (Err f) p = tt
 
-pub output_so : {F M : Type 0} (s : Ghosts F) (m : Ghosts M) (w g : ℕ) (disk : Disk) (input name : List ℕ) (base : Option (List ℕ)) (inputs : List (List ℕ)) (temporary : Option (List ℕ)) (o : RunOptions) (file read : Option F) (items : InputsLeft) (was now : NameCalls) (start end told said : Option (List ℕ)) (result : Result Unit Fault)
+pub output_so : {F I J M : Type 0} (s : Ghosts F) (m : Ghosts M) (w g : ℕ) (disk : Disk) (input name : List ℕ) (base : Option (List ℕ)) (inputs : List (List ℕ)) (temporary : Option (List ℕ)) (o : RunOptions) (file read : Option F) (items : InputsTaken I J) (was now : NameCalls) (start end told said : Option (List ℕ)) (result : Result Unit Fault)
     → is_standard name ≡ true → Knows s w disk base inputs input file read items → AnsweredNames disk name was now → now ≡ was
     → MakesOnOutput s (record { word = w; greatest = g; options = o; base = file; inputs = items }) read start end told said result → CreateSo m disk name temporary o (create_of w g disk input name base inputs temporary o.make) [] was now None start end told said result
 output_so s m w g disk input name base inputs temporary o file read items was now start end told said result standard knows honest calls h =
-    let mk : Making _ = record { word = w; greatest = g; options = o; base = file; inputs = items } in
+    let mk : Making _ _ _ = record { word = w; greatest = g; options = o; base = file; inputs = items } in
     let known = knows h.makes.run.hands in
     let c = create_of w g disk input name base inputs temporary o.make in
     let v = made_here mk known.old known.files input in

@@ -1,16 +1,14 @@
 -- What a create reads, and what is looked up of its names, by the calls that were noted.
-use Rattle.std.proofs.Common.{ℕ, Bool, false, List, [], ◌∷◌, ◌++◌, length, Option, Some, None, IfSome, Result, Ok, Err, ◌≡◌, ◌⊎◌, ◌∙◌, ap, inl, inr, refl, subst, sym, append_assoc, append-nil, bytes_eq, option_map, if◌then◌else◌}
+use Rattle.std.proofs.Common.{ℕ, Bool, false, List, [], ◌∷◌, ◌++◌, Option, Some, None, IfSome, Result, Ok, Err, ◌≡◌, ◌⊎◌, ◌∙◌, ap, inl, inr, refl, subst, sym, append_assoc, append-nil, bytes_eq, option_map, if◌then◌else◌}
 use Rattle.std.specs.Prelude.{⊤, unwrap_or}
-use Rattle.cdb.proofs.Words.{AllByRecursion, AreBytes, AreInPlace, AtEach, AtEachMoment, Fault, Feed, Ghosts, HandsBack, HonestCreate, InputReader, Inputs, InputsLeft, IsNoAlias, LeavesAll, Left, MayHave, NameCalls, NameEvent, OpenCalls, Standard, append_cancel_right, bytes_eq-Decides, cond-false, cond-true, false_from_ne_true, files_of, or_from, place_of, renames, state_of}
+use Rattle.cdb.proofs.Words.{AllByRecursion, AtEach, AtEachMoment, Fault, Feed, Ghosts, HandsBack, HonestCreate, Inputs, InputsTaken, IsNoAlias, LeavesAll, Left, MayHave, NameCalls, NameEvent, OpenCalls, Standard, append_cancel_right, bytes_eq-Decides, cond-false, cond-true, false_from_ne_true, files_of, inputs_taken, or_from, place_of, renames, state_of}
 use Rattle.cdb_names.specs.declared.answer.Answer.TheVariants as looks
 use Rattle.cdb_names.specs.declared.name_trace.NameCall.TheVariants as name_call
-use Rattle.cdb_show.specs.Feed.{AgreesWith, FirstAgree, IsUnread}
-use Rattle.cdb_show.specs.declared.input_reader.InputReader.TheVariants as reader
+use Rattle.cdb_show.specs.Feed.{IsUnread}
 use Rattle.cdb_read.specs.declared.fault.ReadFault.TheVariants.{Device}
-use Rattle.cdb_show.specs.Runs.Incoming.{EachOfBytes, Known}
 use Rattle.cdb_show.specs.declared.fault.Fault.TheVariants.{Read}
-use Rattle.cdb_show.proofs.GivenInputs.{known_all}
-use Rattle.cdb.specs.Agreeing.{HandsInputs, InputsAgree, OpensNone, OpensNoMore, inputs_of as bytes_of}
+use Rattle.cdb.specs.Handing.{HandsInputs, OpensNone, OpensNoMore}
+use Rattle.cdb.proofs.Agreeing.{InputsAgree}
 use Rattle.cdb.specs.Created.{base_in, base_of, head_fault, is_base, is_input, is_read, unless_refused}
 use Rattle.cdb.specs.Creating.{AsksAll, AsksBase, AsksEach, AsksOne, FindsBase, FindsInput, FindsOne, LooksAtBase, OpensAll, SeesBase}
 use Rattle.cdb_system.specs.Answered.{AreAnswered, IsThere, Shows, if_some, stores_before, stores_in, streams_in}
@@ -18,10 +16,10 @@ use Rattle.cdb_system.specs.Oracle.{Disk, inputs_of, is_standard}
 use Rattle.cdb_system.specs.Inputs.{inputs_read, OpensBase, OpensEach}
 use Rattle.cdb_system.specs.State.{AgreeInTurn, Agrees, name_in_turn, names_in_turn, own_readers}
 use Rattle.cdb_system.specs.declared.open_trace.OpenCall.{OpenCall}
-use Rattle.cdb_system.specs.declared.open_trace.OpenCall.TheVariants.{AtPlaces, Emptied, InTurn, Locked, Own, Stream, ToEmpty, Unopened, Watched}
+use Rattle.cdb_system.specs.declared.open_trace.OpenCall.TheVariants.{AtPlaces, InTurn, Watched}
 use Rattle.cdb_system.specs.declared.system.System.{Ghosts as Systems}
 use Rattle.cdb.proofs.Replaced.{BaseHas}
-use Rattle.cdb_system.proofs.InputsKnown.{AreOf, OpenedSince, answered_before, files_of_each, in_turn_then, inputs_are, inputs_since, opened_since, opened_there, own_names, standard_is, standard_not}
+use Rattle.cdb_system.proofs.InputsKnown.{OpenedSince, answered_before, files_of_each, in_turn_then, inputs_are, inputs_since, opened_since, opened_there, own_names, standard_is, standard_not}
 
 shown : {F : Type 0} (s : Ghosts F) (file : Option (List ℕ)) (read : Option F) → Shows s file (if_some read) → (b : List ℕ) × (file ≡ Some b) × BaseHas s read (Some b)
 shown s (Some b) (Some store) h = (b, refl, h.0)
@@ -29,13 +27,13 @@ shown s (Some b) None h = absurd h
 shown s None read h = absurd h
 
 -- all that is read
-pub record AllKnown {F : Type 0} (s : Ghosts F) (w : ℕ) (disk : Disk) (base : Option (List ℕ)) (inputs : List (List ℕ)) (input : List ℕ) (read : Option F) (left : InputsLeft) : Type 0 where
+pub record AllKnown {F I J : Type 0} (s : Ghosts F) (w : ℕ) (disk : Disk) (base : Option (List ℕ)) (inputs : List (List ℕ)) (input : List ℕ) (read : Option F) (left : InputsTaken I J) : Type 0 where
   pub old : Option (List ℕ)
   pub base_is : base_of w disk base ≡ Ok old
   pub has : BaseHas s read old
   pub files : List (Option (List ℕ))
   pub are : inputs_of disk inputs ≡ Some files
-  pub known : Known files input left
+  pub known : InputsAgree files input left
 
 -- the bytes of a base that was opened, whose store is returned
 base_shown : {F I J M N R Y : Type 0} (s : Ghosts F) (y : Systems Y F I M J N R) (disk : Disk) (name : List ℕ) (came : F) (read : Option F) (old new calls : OpenCalls) → OpensBase y (Some name) (Some came) old new → new ≡ calls ++ old → AreAnswered s disk calls (if_some read)
@@ -118,33 +116,11 @@ answered_since s disk stores (c ∷ since) calls each h =
 
 -- ---- the inputs
 
-agrees_so : (file : Option (List ℕ)) (bytes : List ℕ) (feed : Feed) → file ≡ Some bytes → AreBytes bytes → Agrees file feed → AgreesWith AreBytes feed bytes
-agrees_so file bytes feed is fit agrees = let h = subst (λ o. Agrees o feed) is agrees in record { fit = fit; rest = h.0; may = h.1 }
-
--- each reader agrees with its file, in its place
-all_agree : {I : Type 0} (own : I → Feed) (disk : Disk) (names : List (List ℕ)) (before after : List (InputReader I)) (files : List (Option (List ℕ))) → AreInPlace before after → AreOf disk names before files → EachOfBytes files → AgreeInTurn own disk (own_names names before) (own_readers after)
-    → FirstAgree own AreBytes (length files) files after
-all_agree own disk names before after [] placed of fit agree = tt
-all_agree own disk (name ∷ names) (reader.Own old ∷ before) (reader.Own left ∷ after) (Some bytes ∷ files) placed of fit agree =
-    (agrees_so (disk name) bytes (own left) of.0 fit.0 agree.0, all_agree own disk names before after files placed of.1 fit.1 agree.1)
-all_agree own disk (name ∷ names) (reader.Shared ∷ before) (reader.Shared ∷ after) (None ∷ files) placed of fit agree = all_agree own disk names before after files placed of fit agree
-all_agree own disk [] [] after (one ∷ files) placed of fit agree = absurd of
-all_agree own disk (name ∷ names) [] after (one ∷ files) placed of fit agree = absurd of
-all_agree own disk [] (reader.Own old ∷ before) after (one ∷ files) placed of fit agree = absurd of
-all_agree own disk [] (reader.Shared ∷ before) after (one ∷ files) placed of fit agree = absurd of
-all_agree own disk (name ∷ names) (reader.Own old ∷ before) after (None ∷ files) placed of fit agree = absurd of
-all_agree own disk (name ∷ names) (reader.Shared ∷ before) after (Some bytes ∷ files) placed of fit agree = absurd of
-all_agree own disk (name ∷ names) (reader.Own old ∷ before) [] (Some bytes ∷ files) placed of fit agree = absurd placed
-all_agree own disk (name ∷ names) (reader.Own old ∷ before) (reader.Shared ∷ after) (Some bytes ∷ files) placed of fit agree = absurd placed
-all_agree own disk (name ∷ names) (reader.Shared ∷ before) [] (None ∷ files) placed of fit agree = absurd placed
-all_agree own disk (name ∷ names) (reader.Shared ∷ before) (reader.Own left ∷ after) (None ∷ files) placed of fit agree = absurd placed
-
 -- the bytes of the inputs, which agree with the readers that are returned
 pub record InputsFound {I J : Type 0} (own : I → Feed) (shared : J → Feed) (disk : Disk) (inputs : List (List ℕ)) (input : List ℕ) (before after : Inputs I J) : Type 0 where
   pub files : List (Option (List ℕ))
   pub are : inputs_of disk inputs ≡ Some files
-  pub of_bytes : EachOfBytes files
-  pub agree : InputsAgree own shared before after files input
+  pub agree : InputsAgree files input (inputs_taken own shared before after)
 
 -- the readers of the files that were read in turn are those of the inputs
 streams_are : {F I J M : Type 0} (inputs handed : Inputs I J) (left : Left F M I J) → HandsInputs inputs handed left → streams_in left ≡ own_readers handed.readers.items
@@ -185,18 +161,21 @@ module _ {F I J M N R Y : Type 0} (s : Ghosts F) (m : Ghosts M) (feed : I → Fe
       record {
         files = k.files;
         are = inputs_are disk inputs ∙ k.are;
-        of_bytes = k.own;
         agree = record {
+          disk = disk;
+          names = inputs_read inputs;
           unread = opens.unread;
           none_read = subst (λ r. IsUnread (standard.feed r)) (sym shared) honest.unread;
           long = k.long;
-          agree = all_agree feed disk (inputs_read inputs) before.readers.items handed.readers.items k.files hands.placed k.of k.own streams;
+          of = k.of;
+          fit = k.own;
+          agree = streams;
           shared_agrees = record { fit = honest.bytes.standard; rest = agrees.0; may = agrees.1 };
         };
       }
 
   -- and the base, if it is returned
-  pub all_found : left.other ≡ None → HandsBack s file left.read → AllKnown s w disk base inputs input left.read (bytes_of inputs_found.files input)
+  pub all_found : left.other ≡ None → HandsBack s file left.read → AllKnown s w disk base inputs input left.read (inputs_taken feed standard.feed before handed)
   all_found alone hands =
       let found = inputs_found in
       let answered = subst (λ l. AreAnswered s disk at_base.since l) (ap (λ v. if_some v ++ if_some left.read) alone) (answered_before s disk (stores_in left) at_inputs.since at_base.since at_inputs.each answered_there) in
@@ -207,7 +186,7 @@ module _ {F I J M N R Y : Type 0} (s : Ghosts F) (m : Ghosts M) (feed : I → Fe
         has = x.2;
         files = found.files;
         are = found.are;
-        known = record { each = refl; known = known_all found.files input; own = found.of_bytes; bytes = honest.bytes.standard };
+        known = found.agree;
       }
 
 -- ---- no file that is read has the temporary name

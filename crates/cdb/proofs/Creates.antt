@@ -1,12 +1,12 @@
 -- Each create comes to what the oracle says.
-use Rattle.cdb.proofs.Words.{AreAnswered, Created, Disk, Fault, Feed, Ghosts, HonestCreate, InputsLeft, Left, List, NameCalls, None, OpenCalls, Option, Result, RunOptions, Some, Standard, [], ap, bytes_eq, bytes_eq-Decides, codes, create_of, false, false_from_ne_true, files_of, inl, inr, is_in_place, or_from, or_left, or_right, refl, standard_is, standard_not, state_of, stores_in, subst, sym, true, ℕ, ◌≡◌}
+use Rattle.cdb.proofs.Words.{AreAnswered, Created, Disk, Fault, Feed, Ghosts, HonestCreate, InputsTaken, Left, List, NameCalls, None, OpenCalls, Option, Result, RunOptions, Some, Standard, [], ap, bytes_eq, bytes_eq-Decides, codes, create_of, false, false_from_ne_true, files_of, inl, inputs_taken, inr, is_in_place, or_from, or_left, or_right, refl, standard_is, standard_not, state_of, stores_in, subst, sym, true, ℕ, ◌≡◌}
 use Rattle.cdb_store.specs.declared.raw.RawFile.{Ghosts as Raw}
 use Rattle.cdb_show.specs.declared.fault.Fault.TheVariants.{NoMemory, Open}
-use Rattle.cdb.specs.Agreeing.{inputs_of as bytes_of, machine_of}
+use Rattle.cdb.specs.Handing.{machine_of}
 use Rattle.cdb.specs.Creating.{Creates, HandsBase, Making, MakesAt}
 use Rattle.cdb_system.specs.State.{IsInPlace, temporary_of}
 use Rattle.cdb_system.specs.declared.system.System.{Ghosts as Systems}
-use Rattle.cdb.proofs.CreateReads.{all_found, asking_all, asking_finds, asking_none, inputs_found}
+use Rattle.cdb.proofs.CreateReads.{all_found, asking_all, asking_finds, asking_none}
 use Rattle.cdb.proofs.CreateEnds.{AnsweredNames, CreateSo, Knows, back_hands, ends_early, found, hands_unread, memory_so, not_opened_so, open_so, read_unopened, refused_early}
 use Rattle.cdb.proofs.CreateApart.{replacing_so}
 use Rattle.cdb.proofs.CreatePlaced.{emptied_so, emptying_refused, in_place_unopened, output_so}
@@ -30,7 +30,7 @@ in_place_not name None other = refl
 in_place_not name (Some t) other = or_from _ _ (false_from_ne_true (bytes_eq t (codes "-")) (λ e. other (inl ((bytes_eq-Decides t (codes "-")).0 e)))) (false_from_ne_true (bytes_eq t name) (λ e. other (inr ((bytes_eq-Decides t name).0 e))))
 
 -- no other store is returned
-module _ {F I J M N R Y : Type 0} (s : Ghosts F) (m : Ghosts M) (r : Raw R) (feed : I → Feed) (y : Systems Y F I M J N R) (w g : ℕ) (name : List ℕ) (base : Option (List ℕ)) (inputs : List (List ℕ)) (temporary : Option (List ℕ)) (o : RunOptions) (mid new : OpenCalls) (left : Left F M I J) (was now : NameCalls) (start end told said : Option (List ℕ)) (result : Result Unit Fault) (file : Option F) (items : InputsLeft) where
+module _ {F I J M N R Y : Type 0} (s : Ghosts F) (m : Ghosts M) (r : Raw R) (feed : I → Feed) (y : Systems Y F I M J N R) (w g : ℕ) (name : List ℕ) (base : Option (List ℕ)) (inputs : List (List ℕ)) (temporary : Option (List ℕ)) (o : RunOptions) (mid new : OpenCalls) (left : Left F M I J) (was now : NameCalls) (start end told said : Option (List ℕ)) (result : Result Unit Fault) (file : Option F) (items : InputsTaken I J) where
   alone_so : MakesAt (machine_of s m feed y r) (record { word = w; greatest = g; options = o; base = file; inputs = items }) (record { word = w; greatest = g; options = o; name = name; base = base; inputs = inputs; temporary = temporary }) (state_of mid was start told) (state_of new now end said) left result → left.other ≡ None
   alone_so (inl (at_output, same, calls, handed, makes)) = handed.other
   alone_so (inr (other, kept, inl (here, inl (finds, same, handed, is, silent)))) = handed.other
@@ -39,7 +39,7 @@ module _ {F I J M N R Y : Type 0} (s : Ghosts F) (m : Ghosts M) (r : Raw R) (fee
   alone_so (inr (other, kept, inr (apart, same, handed, rest))) = handed.other
 
 -- the database was made
-module _ {F I J M N R Y : Type 0} (s : Ghosts F) (m : Ghosts M) (r : Raw R) (feed : I → Feed) (y : Systems Y F I M J N R) (w g : ℕ) (disk : Disk) (input name : List ℕ) (base : Option (List ℕ)) (inputs : List (List ℕ)) (temporary : Option (List ℕ)) (o : RunOptions) (mid new : OpenCalls) (left : Left F M I J) (was now : NameCalls) (start end told said : Option (List ℕ)) (result : Result Unit Fault) (file : Option F) (items : InputsLeft)
+module _ {F I J M N R Y : Type 0} (s : Ghosts F) (m : Ghosts M) (r : Raw R) (feed : I → Feed) (y : Systems Y F I M J N R) (w g : ℕ) (disk : Disk) (input name : List ℕ) (base : Option (List ℕ)) (inputs : List (List ℕ)) (temporary : Option (List ℕ)) (o : RunOptions) (mid new : OpenCalls) (left : Left F M I J) (was now : NameCalls) (start end told said : Option (List ℕ)) (result : Result Unit Fault) (file : Option F) (items : InputsTaken I J)
     (knows : Knows s w disk base inputs input file left.read items) (honest : AnsweredNames disk name was now) where
   makes_so : MakesAt (machine_of s m feed y r) (record { word = w; greatest = g; options = o; base = file; inputs = items }) (record { word = w; greatest = g; options = o; name = name; base = base; inputs = inputs; temporary = temporary }) (state_of mid was start told) (state_of new now end said) left result
       → CreateSo m disk name temporary o (create_of w g disk input name base inputs temporary o.make) new was now left.made start end told said result
@@ -76,7 +76,7 @@ module _ {F I J M N R Y : Type 0} (s : Ghosts F) (m : Ghosts M) (r : Raw R) (fee
       (open_so o c disk start end told said (read_unopened s w g disk input name base inputs temporary o left.read items (knows (hands_unread s file left.read back)) (standard_not name other) (in_place_not name temporary apart) f.one) (kept, silent))))
   makes_so (inr (other, kept, inr (apart, same, handed, inr (inr (asked, asks, replaces))))) =
       let c = create_of w g disk input name base inputs temporary o.make in
-      let mk : Making _ = record { word = w; greatest = g; options = o; base = file; inputs = items } in
+      let mk : Making _ _ _ = record { word = w; greatest = g; options = o; base = file; inputs = items } in
       let hands = back_hands s r mk (temporary_of name temporary) name (state_of mid asked start told) (state_of new now end said) left.read result replaces in
       with_none m disk name temporary o c new was now left.read left start end told said result handed
       (replacing_so s m r w g disk input name base inputs temporary o mid new file left.read items was asked now start end told said result (standard_not name other) (in_place_not name temporary apart) hands knows honest kept asks replaces)
@@ -91,10 +91,8 @@ creates_so s m r feed y w g disk input name base inputs temporary o standard old
     (ends_early m o c disk name temporary was now start end told said fault honest.first (asking_none was now same)
     (not_opened_so s m feed y w g disk input name base inputs temporary o old new honest.calls left.read start end told said fault honest.are (subst (λ (l : Left _ _ _ _). AreAnswered s disk honest.calls (stores_in l)) handed honest.answered) (kept, silent) not_opened)))
 creates_so s m r feed y w g disk input name base inputs temporary o standard old new left was now start end told said result honest (inr (file, before, mid, opens, all)) =
-    let found_so = inputs_found s m feed y disk input name base inputs standard old mid new left was now start end told said file before all.handed w honest opens all.shared all.hands all.opens in
-    let items = bytes_of found_so.files input in
-    let makes = all.does found_so.files input found_so.agree in
+    let items = inputs_taken feed standard.feed before all.handed in
     let names : AnsweredNames disk name was now = record { first = honest.first; alone = honest.alone; held = honest.held; has = honest.has } in
-    let alone = alone_so s m r feed y w g name base inputs temporary o mid new left was now start end told said result file items makes in
+    let alone = alone_so s m r feed y w g name base inputs temporary o mid new left was now start end told said result file items all.does in
     makes_so s m r feed y w g disk input name base inputs temporary o mid new left was now start end told said result file items
-    (all_found s m feed y disk input name base inputs standard old mid new left was now start end told said file before all.handed w honest opens all.shared all.hands all.opens alone) names makes
+    (all_found s m feed y disk input name base inputs standard old mid new left was now start end told said file before all.handed w honest opens all.shared all.hands all.opens alone) names all.does

@@ -1,45 +1,40 @@
 -- What a store has once a run over it succeeded, and what a run says whose lines were forwarded.
-use Rattle.cdb.proofs.Words.{Asked, Bool, Err, Fault, Feed, Ghosts, HasDatabase, IsDatabase, IsMakeRun, Keeps, Left, List, Making, NameCalls, None, Ok, OnErr, OnOk, OpenCalls, Option, OutputSays, Refused, Result, Runs, SeesName, Some, Standard, Syncs, WhereHonest, failed_of, given_of, inl, inr, refused_lines, says_more, state_of, subst, sym, true, ℕ, ◌∙◌, ◌≡◌}
+use Rattle.cdb.proofs.Words.{Asked, Bool, Err, Fault, Feed, Ghosts, HasDatabase, IsDatabase, IsMakeRun, Keeps, Left, List, Making, NameCalls, Ok, OnErr, OnOk, OpenCalls, Option, OutputSays, ReadsMaking, Refused, Result, Runs, SeesName, Standard, Syncs, failed_of, given_of, inl, inr, refused_lines, says_more, state_of, subst, sym, true, ℕ, ◌∙◌, ◌≡◌}
 use Rattle.cdb_names.specs.declared.answer.Answer.TheVariants.{No, Unknown, Yes}
 use Rattle.cdb_store.specs.declared.raw.RawFile.{Ghosts as Raw}
-use Rattle.cdb_tool.specs.Runs.Make.{HandsBack, OfBase, Makes, terms_of}
-use Rattle.cdb_tool.specs.Runs.Make as run
+use Rattle.cdb_tool.specs.Runs.Make.{MakeRuns, Reading, Terms, terms_of}
+use Rattle.cdb_tool.proofs.RunEnds.{base_weaker}
 use Rattle.cdb_system.specs.declared.system.System.{Ghosts as Systems}
 use Rattle.cdb_system.proofs.Said.{line_kept, says_kept}
-use Rattle.cdb.specs.Agreeing.{machine_of}
+use Rattle.cdb.specs.Handing.{machine_of}
 
-of_weaker : {F : Type 0} (f : Ghosts F) (base : Option F) (P Q : Option (List ℕ) → Type 0) → ((x : Option (List ℕ)) → P x → Q x) → OfBase f base P → OfBase f base Q
-of_weaker f None P Q g h = g None h
-of_weaker f (Some base) P Q g h = λ b is. g (Some b) (h b is)
+runs_under : (terms : Terms) (x : Option (List ℕ)) (r : Reading) (images inner : List ℕ → Type 0) (told said : Option (List ℕ)) (made : Result Unit Fault) → OnOk made ((b : List ℕ) → inner b → images b) → MakeRuns terms x r images told said made → MakeRuns terms x r inner told said made
+runs_under terms x r images inner told said (Ok done) in_image runs = record { ok = record { based = runs.ok.based; goes = runs.ok.goes; file = record { each = λ b is. runs.ok.file.each b (in_image b is) } }; err = tt }
+runs_under terms x r images inner told said (Err fault) in_image runs = record { ok = tt; err = runs.err }
 
-made_here : {F : Type 0} (m : Making F) (images : List ℕ → Type 0) (told said : Option (List ℕ)) (b : List ℕ) → images b → (x : Option (List ℕ)) → run.MakeRuns (run.terms_of m.word m.greatest m.options) x m.inputs images told said (Ok tt)
-    → Makes (terms_of m.word m.greatest m.options) x m.inputs (λ c. c ≡ b) told said
-made_here m images told said b is x runs =
-    let made = runs.ok.made in
-    record { based = runs.ok.based; made = record { read = made.read; are = made.are; goes = made.goes; file = record { each = λ c e. e ∙ made.file.each b is } } }
-
-pub database_made : {F : Type 0} (f : Ghosts F) (m : Making F) (back : Option F) (images inner : List ℕ → Type 0) (told said : Option (List ℕ)) (made : Result Unit Fault) → HandsBack f m.base back
-    → WhereHonest images (OfBase f back (λ x. run.MakeRuns (run.terms_of m.word m.greatest m.options) x m.inputs images told said made)) → OnOk made ((b : List ℕ) → inner b → images b) → OnOk made (HasDatabase f m back inner)
-database_made f m back images inner told said (Ok done) hands runs in_image = λ b is.
-    let at : images b = in_image b is in
-    record { hands = hands; told = told; said = said; is = of_weaker f back _ _ (made_here m images told said b at) (runs.each b at) }
-database_made f m back images inner told said (Err fault) hands runs in_image = tt
-
-runs_under : {F : Type 0} (m : Making F) (images inner : List ℕ → Type 0) (told said : Option (List ℕ)) (made : Result Unit Fault) → OnOk made ((b : List ℕ) → inner b → images b) → (x : Option (List ℕ)) → run.MakeRuns (run.terms_of m.word m.greatest m.options) x m.inputs images told said made
-    → run.MakeRuns (run.terms_of m.word m.greatest m.options) x m.inputs inner told said made
-runs_under m images inner told said (Ok done) in_image x runs =
-    let made = runs.ok.made in
-    record { ok = record { based = runs.ok.based; made = record { read = made.read; are = made.are; goes = made.goes; file = record { each = λ b is. made.file.each b (in_image b is) } } }; err = tt }
-runs_under m images inner told said (Err fault) in_image x runs = record { ok = tt; err = runs.err }
-
--- a run in a store over another one is one of the other's images too
-pub run_under : {F : Type 0} (f : Ghosts F) (m : Making F) (back : Option F) (images inner : List ℕ → Type 0) (told said : Option (List ℕ)) (made : Result Unit Fault) → IsMakeRun f m back images told said made
-    → ((b : List ℕ) → inner b → (a : List ℕ) × images a) → OnOk made ((b : List ℕ) → inner b → images b) → IsMakeRun f m back inner told said made
-run_under f m back images inner told said made ran over in_image = record {
-  hands = ran.hands;
-  base_failed = ran.base_failed;
-  runs = record { each = λ b is. of_weaker f back _ _ (runs_under m images inner told said made in_image) (ran.runs.each (over b is).0 (over b is).1) };
+-- what a run leaves in a store over another one is so of the other's images too
+read_under : {F I J : Type 0} (f : Ghosts F) (m : Making F I J) (back : Option F) (images inner : List ℕ → Type 0) (told said : Option (List ℕ)) (made : Result Unit Fault) → ReadsMaking f m back images told said made → ((b : List ℕ) → inner b → (a : List ℕ) × images a) → OnOk made ((b : List ℕ) → inner b → images b)
+    → ReadsMaking f m back inner told said made
+read_under f m back images inner told said made run over in_image = record {
+  read = run.read;
+  were = run.were;
+  is = run.is;
+  runs = record {
+    each = λ b is. base_weaker f back _ _ (λ x some runs. runs_under (terms_of m.word m.greatest m.options) x run.read images inner told said made in_image runs) (run.runs.each (over b is).0 (over b is).1);
+  };
 }
+
+pub run_under : {F I J : Type 0} (f : Ghosts F) (m : Making F I J) (back : Option F) (images inner : List ℕ → Type 0) (told said : Option (List ℕ)) (made : Result Unit Fault) → IsMakeRun f m back images told said made
+    → ((b : List ℕ) → inner b → (a : List ℕ) × images a) → OnOk made ((b : List ℕ) → inner b → images b) → IsMakeRun f m back inner told said made
+run_under f m back images inner told said made ran over in_image =
+    record { hands = ran.hands; base_failed = ran.base_failed; runs = read_under f m back images inner told said made ran.runs over in_image }
+
+-- the database that a run made
+pub database_made : {F I J : Type 0} (f : Ghosts F) (m : Making F I J) (back : Option F) (images inner : List ℕ → Type 0) (told said : Option (List ℕ)) (made : Result Unit Fault) → IsMakeRun f m back images told said made → OnOk made ((b : List ℕ) → inner b → images b) → OnOk made (HasDatabase f m back inner)
+database_made f m back images inner told said (Ok done) ran in_image = λ b is.
+    let at : images b = in_image b is in
+    record { hands = ran.hands; told = told; said = said; is = read_under f m back images (λ c. c ≡ b) told said (Ok tt) ran.runs (λ c e. (b, at)) (λ c e. subst images (sym e) at) }
+database_made f m back images inner told said (Err fault) ran in_image = tt
 
 -- ---- a store that was flushed
 
@@ -63,7 +58,7 @@ named_says O name was now (Ok done) result (No, calls, is) says = subst (OutputS
 named_says O name was now (Ok done) result (Unknown, calls, is) says = subst (OutputSays O) (sym is) tt
 named_says O name was now (Err fault) result (same, is) says = subst (OutputSays O) (sym is) says
 
-pub database_synced : {F M : Type 0} (f : Ghosts F) (s : Ghosts M) (m : Making F) (back : Option F) (built left : M) (made result : Result Unit Fault) → Syncs s built left made result
+pub database_synced : {F I J M : Type 0} (f : Ghosts F) (s : Ghosts M) (m : Making F I J) (back : Option F) (built left : M) (made result : Result Unit Fault) → Syncs s built left made result
     → OnOk made (HasDatabase f m back (s.image built)) → OnOk result (HasDatabase f m back (s.image left))
 database_synced f s m back built left made (Err fault) syncs has = tt
 database_synced f s m back built left made (Ok done) syncs has = λ b is. elim syncs.answered as (λ _. IsDatabase f m back b) [

@@ -27,7 +27,7 @@ use Rattle.cdb_system.specs.Telling.{Says, SaysLine, refused_lines, usage_line, 
 use Rattle.cdb_system.specs.Causes.{Called, Explains, called_of}
 use Rattle.cdb_system.specs.declared.system.System.{Ghosts as Systems}
 use Rattle.cdb_system.proofs.FilesRead.{query_foretold, text_named, text_input, stats_comes, check_comes, on_named, on_input, stats_taken, check_taken, told_comes}
-use Rattle.cdb.specs.Agreeing.{machine_of}
+use Rattle.cdb.specs.Handing.{machine_of}
 
 -- ---- the end of a command
 

@@ -23,7 +23,7 @@ use Rattle.cdb_system.specs.Opening.{both_left, input_left, looked_left, none_le
 use Rattle.cdb_system.specs.Reading.{ChecksStore, IsNotLoaded, OfFile, OfInput, OfStream, PerformsDifference, PerformsLookups, PerformsOn, PerformsQuery, PerformsText, ReadsText, Refuses, Takes, Tells, TellsStore, WritesFile, WritesInput}
 use Rattle.cdb_system.specs.State.{calls_in, WantedDifference, WantedLookups, WantedQuery, WantedStore, WantedText}
 use Rattle.cdb_system.specs.declared.open_trace.OpenCall.TheVariants.{AtPlaces, Stream}
-use Rattle.cdb.specs.Agreeing.{Machine}
+use Rattle.cdb.specs.Handing.{Machine}
 use Rattle.cdb.specs.Performs.{HandsOn, Performs}
 use Rattle.cdb.specs.Reasons.{CanHaveNoFile, HasReason, HasRefusedFile, IfCreate, Reasons, calls_made, left_reasons}
 use Rattle.cdb.proofs.Reasons.{file_then, inputs_missed, missed_reason, some_any}

@@ -1,5 +1,5 @@
 -- That a fault has its reason: of a run over what a create read, of a name, and of a command that only reads.
-use Rattle.cdb.proofs.Words.{Answer, Err, Fault, Feed, Ghosts, IfErr, InputReader, Inputs, List, NameCalls, NameFault, None, Ok, OnErr, OpenCalls, Option, Result, SeesName, Some, Sources, Syncs, [], ap, append_assoc, arith, inl, inr, refl, subst, sym, ℕ, ⊤, ◌++◌, ◌<◌, ◌∙◌, ◌∷◌, ◌≡◌, ◌⊎◌}
+use Rattle.cdb.proofs.Words.{Answer, Err, Fault, Feed, Ghosts, IfErr, InputReader, List, NameFault, None, Ok, OnErr, OpenCalls, Option, Result, SeesName, Some, Sources, Syncs, [], ap, append_assoc, arith, inl, inr, refl, subst, sym, ℕ, ⊤, ◌++◌, ◌<◌, ◌∙◌, ◌∷◌, ◌≡◌, ◌⊎◌}
 use Rattle.std.proofs.lemmas.Result.{IfErr-weaker}
 use Rattle.cdb_show.specs.Feed.{SomeFailed}
 use Rattle.cdb_show.specs.declared.input_reader.InputReader.TheVariants.{Own, Shared}
@@ -9,8 +9,9 @@ use Rattle.cdb_names.specs.declared.answer.Answer.TheVariants as looks
 use Rattle.cdb_names.specs.declared.name_fault.NameFault.TheVariants as why
 use Rattle.cdb_names.specs.declared.answer.Lock.TheVariants.{Held}
 use Rattle.cdb_read.specs.declared.fault.ReadFault.TheVariants as read
-use Rattle.cdb_show.specs.Runs.Parsing.{IsOfRun}
-use Rattle.cdb_show.specs.declared.fault.Fault.TheVariants.{Make, New, NoMemory, Old, Open, Output, Read, Rename, Text, Walk}
+use Rattle.cdb_show.specs.Runs.Inputs.{InputForm}
+use Rattle.cdb_show.specs.Runs.Parsing.{IsFaultOf}
+use Rattle.cdb_show.specs.declared.fault.Fault.TheVariants.{Make, New, Old, Open, Output, Read, Rename, Text, Walk}
 use Rattle.cdb_store.specs.declared.make_fault.MakeFault.TheVariants as make
 use Rattle.cdb_system.specs.Answered.{if_some}
 use Rattle.cdb_system.specs.State.{Files, own_readers}
@@ -68,22 +69,22 @@ base_failed s None back h = absurd h
 base_failed s (Some old) None h = absurd h
 
 module _ {F J I : Type 0} (s : Ghosts F) (own : J → Feed) (shared : I → Feed) (was : Option F) (back : Sources F J I) (made : Type 0) where
-  run_fault : (f : Fault) → ((n : ℕ) → f ≡ Text n text.Input → SomeFailed own shared back.inputs.readers.items back.inputs.shared) → IsOfRun f → (IsOfStore f → made) → (IsOfBase f → BaseHasFailed s was back.base) → HasReason (run_reasons s own shared back made ⊥) f
-  run_fault (Text n text.Input) reader of_run store base = reader n refl
-  run_fault (Read read.Device) reader of_run store base = base_failed s was back.base (base tt)
-  run_fault (Make make.Writing) reader of_run store base = store tt
-  run_fault (Make make.Lookup) reader of_run store base = store tt
-  run_fault Open reader of_run store base = absurd of_run
-  run_fault Rename reader of_run store base = absurd of_run
-  run_fault (Walk f) reader of_run store base = absurd of_run
-  run_fault (Old f) reader of_run store base = absurd of_run
-  run_fault (New f) reader of_run store base = absurd of_run
-  run_fault f reader of_run store base = tt
+  run_fault : (form : InputForm) (i : ℕ) (f : Fault) → IsFaultOf form i (SomeFailed own shared back.inputs.readers.items back.inputs.shared) f → (IsOfStore f → made) → (IsOfBase f → BaseHasFailed s was back.base) → HasReason (run_reasons s own shared back made ⊥) f
+  run_fault form i (Text n text.Input) of_input store base = of_input.failed n refl
+  run_fault form i (Read read.Device) of_input store base = base_failed s was back.base (base tt)
+  run_fault form i (Make make.Writing) of_input store base = store tt
+  run_fault form i (Make make.Lookup) of_input store base = store tt
+  run_fault form i Open of_input store base = absurd of_input.of_run
+  run_fault form i Rename of_input store base = absurd of_input.of_run
+  run_fault form i (Walk f) of_input store base = absurd of_input.of_run
+  run_fault form i (Old f) of_input store base = absurd of_input.of_run
+  run_fault form i (New f) of_input store base = absurd of_input.of_run
+  run_fault form i f of_input store base = tt
 
-  pub run_reason : (result : Result Unit Fault) → ((n : ℕ) → result ≡ Err (Text n text.Input) → SomeFailed own shared back.inputs.readers.items back.inputs.shared) → IfErr result IsOfRun → IfErr result (λ f. IsOfStore f → made) → IfErr result (λ f. IsOfBase f → BaseHasFailed s was back.base)
+  pub run_reason : (form : InputForm) (i : ℕ) (result : Result Unit Fault) → IfErr result (IsFaultOf form i (SomeFailed own shared back.inputs.readers.items back.inputs.shared)) → IfErr result (λ f. IsOfStore f → made) → IfErr result (λ f. IsOfBase f → BaseHasFailed s was back.base)
       → IfErr result (HasReason (run_reasons s own shared back made ⊥))
-  run_reason (Ok done) reader of_run store base = tt
-  run_reason (Err f) reader of_run store base = run_fault f (λ n e. reader n (ap (λ (f : Fault). Err f) e)) of_run store base
+  run_reason form i (Ok done) of_input store base = tt
+  run_reason form i (Err f) of_input store base = run_fault form i f of_input store base
 
 -- in a store that was flushed then, if it is left so
 module _ {F J I M : Type 0} (s : Ghosts F) (own : J → Feed) (shared : I → Feed) (back : Sources F J I) (m : Ghosts M) (store built last : M) where

@@ -1,8 +1,8 @@
 -- A create in a temporary file comes to what the function of its bytes says.
 use Rattle.cdb.proofs.CreateTaken.{MayGiveUpCreate}
-use Rattle.cdb.proofs.Words.{AllByRecursion, Appends, AppendsPrefix, Err, Fault, Ghosts, HadBytes, IfErr, IsNoFailedRename, Keeps, Keeps-refl, Known, List, Made, NameCall, None, OfBase, Ok, OnErr, OnOk, OpenCalls, Option, OutputSays, ReplaceFault, Result, RunOptions, Some, [], ap, append-nil, append_cancel_right, arith, bytes_eq, bytes_eq-Decides, false, false_from_ne_true, inl, inr, made_file, made_lines, made_of, place_of, refl, state_of, subst, sym, take, true, ℕ, ⊤, ◌++◌, ◌+◌, ◌∙◌, ◌∷◌, ◌≡◌, ◌≢◌, ◌⊎◌}
-use Rattle.cdb_names.specs.Folder.{AreNamesApart, Has, LeavesFile, MayHave, NameCalls}
-use Rattle.cdb_names.specs.Replacing.{BuilderAnswers, AreOfReplacing, AtEach, AtEachMoment, ClearsFile, HasCleared, IsNew, IsOfReplacing, IsReady, IsRenamed, LeavesOldOrNew, NameEvent, BuilderTells, TellsOfFile, StopsUnbuilt, renames}
+use Rattle.cdb.proofs.Words.{AllByRecursion, Appends, AppendsPrefix, Err, Fault, Ghosts, HadBytes, IfErr, IsNoFailedRename, Keeps, Keeps-refl, List, Made, NameCall, None, OfBase, Ok, OnErr, OnOk, OpenCalls, Option, OutputSays, ReplaceFault, Result, RunOptions, Some, [], ap, append-nil, append_cancel_right, arith, bytes_eq, bytes_eq-Decides, false, false_from_ne_true, inl, inr, made_file, made_lines, made_of, place_of, refl, state_of, subst, sym, take, true, ℕ, ⊤, ◌++◌, ◌+◌, ◌∙◌, ◌∷◌, ◌≡◌, ◌≢◌, ◌⊎◌}
+use Rattle.cdb_names.specs.Folder.{Has, LeavesFile, MayHave, NameCalls}
+use Rattle.cdb_names.specs.Replacing.{BuilderAnswers, AreOfReplacing, AtEach, ClearsFile, HasCleared, IsNew, IsOfReplacing, IsReady, IsRenamed, LeavesOldOrNew, NameEvent, BuilderTells, TellsOfFile, StopsUnbuilt, renames}
 use Rattle.cdb_names.specs.declared.name_trace.NameCall.TheVariants.{NotRemoved, NotRenamed, NotSynced, Removed, Renamed, Synced}
 use Rattle.cdb_names.specs.declared.name_trace.NameCall.TheVariants as name_call
 use Rattle.cdb_names.specs.declared.replace.ReplaceFault.TheVariants as replace
@@ -10,10 +10,9 @@ use Rattle.cdb_store.specs.Calls.{Calls, FileImage, IsSynced}
 use Rattle.cdb_store.specs.FileStore.{calls_of, images_of}
 use Rattle.cdb_store.specs.declared.file.FileStore.{FileStore}
 use Rattle.cdb_store.specs.declared.raw.RawFile.{Ghosts as Raw}
-use Rattle.cdb_tool.specs.Runs.Make as run
-use Rattle.cdb_show.specs.declared.fault.Fault.TheVariants.{Text, Make, Duplicate, Missing, Read, Walk, Output, Long, Open, Rename, NoMemory, Old, New, NoOldTables, NoNewTables, NoBaseTables}
+use Rattle.cdb_show.specs.declared.fault.Fault.TheVariants.{Open, Rename, NoMemory}
 use Rattle.cdb_tool.specs.Runs.MakesSo.{ComesOf, IsMakeRefusal}
-use Rattle.cdb_tool.proofs.MadeOf.{made_so, run_comes}
+use Rattle.cdb.proofs.Agreeing.{InputsAgree, making_comes}
 use Rattle.cdb_tool.proofs.ToldLines.{part_plain, tells_plain}
 use Rattle.cdb.specs.Creating.{IsBufferedRun, IsDatabase, IsMakeRun, Making, Replaces, answer_of, fault_of}
 
@@ -84,13 +83,16 @@ of_known f (Some store) (Some bytes) P has h = h bytes has
 of_known f None (Some bytes) P has h = absurd has
 of_known f (Some store) None P has h = absurd has
 
-abbrev pub made_here : {F : Type 0} → Making F → Option (List ℕ) → List (Option (List ℕ)) → List ℕ → Made
+abbrev pub made_here : {F I J : Type 0} → Making F I J → Option (List ℕ) → List (Option (List ℕ)) → List ℕ → Made
 made_here m x files input = made_of m.word m.greatest m.options.make x files input
 
-pub database_is : {F : Type 0} (f : Ghosts F) (m : Making F) (back : Option F) (x : Option (List ℕ)) (files : List (Option (List ℕ))) (input b : List ℕ) → BaseHas f back x → Known files input m.inputs → IsDatabase f m back b → (b ≡ made_file m.word (made_here m x files input)) × ((made_here m x files input).result ≡ Ok tt)
+pub database_is : {F I J : Type 0} (f : Ghosts F) (m : Making F I J) (back : Option F) (x : Option (List ℕ)) (files : List (Option (List ℕ))) (input b : List ℕ) → BaseHas f back x → InputsAgree files input m.inputs → IsDatabase f m back b → (b ≡ made_file m.word (made_here m x files input)) × ((made_here m x files input).result ≡ Ok tt)
 database_is f m back x files input b has known d =
-    let so = made_so m.word m.greatest m.options x files input m.inputs (λ c. c ≡ b) d.told d.said known (of_known f back x (λ y. run.Makes (run.terms_of m.word m.greatest m.options) y m.inputs (λ c. c ≡ b) d.told d.said) has d.is) in
-    (so.file.each b refl, sym so.is)
+    let comes = of_known f back x (λ y. ComesOf m.word m.options (made_here m y files input) (λ c. c ≡ b) d.told d.said (Ok tt)) has ((making_comes f m back files input (λ c. c ≡ b) d.told d.said (Ok tt) known d.hands d.is).each b refl) in
+    elim comes [
+      | inl so ↦ (so.file.each b refl, sym so.is)
+      | inr refused ↦ absurd (let no : ◌≡◌ {A = Result Unit Fault} (Ok tt) (Err refused.fault) = refused.is in cc)
+    ]
 
 -- ---- the other names
 
@@ -158,13 +160,13 @@ pub each_weaker : (P Q : NameCalls → Type 0) (since old : NameCalls) → ((now
 each_weaker P Q [] old go h = go old h
 each_weaker P Q (call ∷ since) old go h = (go (call ∷ (since ++ old)) h.0, each_weaker P Q since old go h.1)
 
-new_is : {F : Type 0} (f : Ghosts F) (m : Making F) (back : Option F) (x : Option (List ℕ)) (files : List (Option (List ℕ))) (input : List ℕ) (held : Option (List ℕ)) → BaseHas f back x → Known files input m.inputs → IsNew (IsDatabase f m back) held → (held ≡ Some (made_file m.word (made_here m x files input))) × ((made_here m x files input).result ≡ Ok tt)
+new_is : {F I J : Type 0} (f : Ghosts F) (m : Making F I J) (back : Option F) (x : Option (List ℕ)) (files : List (Option (List ℕ))) (input : List ℕ) (held : Option (List ℕ)) → BaseHas f back x → InputsAgree files input m.inputs → IsNew (IsDatabase f m back) held → (held ≡ Some (made_file m.word (made_here m x files input))) × ((made_here m x files input).result ≡ Ok tt)
 new_is f m back x files input None has known h = absurd h
 new_is f m back x files input (Some b) has known h =
     let d = database_is f m back x files input b has known h in
     (ap (λ (z : List ℕ). Some z) d.0, d.1)
 
-one_moment : {F : Type 0} (f : Ghosts F) (m : Making F) (back : Option F) (x : Option (List ℕ)) (files : List (Option (List ℕ))) (input temporary name : List ℕ) (old now : NameCalls) → temporary ≢ name → BaseHas f back x → Known files input m.inputs
+one_moment : {F I J : Type 0} (f : Ghosts F) (m : Making F I J) (back : Option F) (x : Option (List ℕ)) (files : List (Option (List ℕ))) (input temporary name : List ℕ) (old now : NameCalls) → temporary ≢ name → BaseHas f back x → InputsAgree files input m.inputs
     → LeavesOldOrNew temporary name (IsDatabase f m back) old now → LeavesOldOrMade m.word name (made_here m x files input) old now
 one_moment f m back x files input temporary name old now apart has known h = λ first held may.
     let other = not_at temporary name apart in
@@ -208,10 +210,10 @@ renamed_has t n sync len file before first held passes synced h = elim (passes h
 -- ---- the run
 
 -- its bytes, its answer and its lines
-run_is : {F : Type 0} (f : Ghosts F) (m : Making F) (back : Option F) (x : Option (List ℕ)) (files : List (Option (List ℕ))) (input : List ℕ) (images : List ℕ → Type 0) (b : List ℕ) (told said : Option (List ℕ)) (built : Result Unit Fault) → BaseHas f back x → Known files input m.inputs → images b → IsMakeRun f m back images told said built
+run_is : {F I J : Type 0} (f : Ghosts F) (m : Making F I J) (back : Option F) (x : Option (List ℕ)) (files : List (Option (List ℕ))) (input : List ℕ) (images : List ℕ → Type 0) (b : List ℕ) (told said : Option (List ℕ)) (built : Result Unit Fault) → BaseHas f back x → InputsAgree files input m.inputs → images b → IsMakeRun f m back images told said built
     → ComesOf m.word m.options (made_here m x files input) images told said built
 run_is f m back x files input images b told said built has known is h =
-    run_comes m.word m.greatest m.options x files input m.inputs images told said built known (of_known f back x (λ y. run.MakeRuns (run.terms_of m.word m.greatest m.options) y m.inputs images told said built) has (h.runs.each b is))
+    of_known f back x (λ y. ComesOf m.word m.options (made_here m y files input) images told said built) has ((making_comes f m back files input images told said built known h.hands h.runs).each b is)
 
 made_ok : (w : ℕ) (o : RunOptions) (made : Made) (images : List ℕ → Type 0) (b : List ℕ) (held told said : Option (List ℕ)) → images b → held ≡ Some b → ComesOf w o made images told said (Ok tt) → HasMade w o made told said held
 made_ok w o made images b held told said is e (inl so) = record { file = e ∙ ap (λ (z : List ℕ). Some z) (so.file.each b is); result = sym so.is; lines = λ plain. tells_plain o.names made.told told said plain so.lines }
@@ -223,15 +225,15 @@ built_ok : (built : Result Unit Fault) → BuilderAnswers built (Ok tt) → buil
 built_ok (Ok done) h = refl
 built_ok (Err fault) h = absurd (let no : ◌≡◌ {A = Result Unit (ReplaceFault Fault)} (Ok tt) (Err (replace.Build fault)) = h in cc)
 
-pub ran_ok : {F : Type 0} (f : Ghosts F) (m : Making F) (back : Option F) (x : Option (List ℕ)) (files : List (Option (List ℕ))) (input : List ℕ) (images : List ℕ → Type 0) (b : List ℕ) (held told said : Option (List ℕ)) → BaseHas f back x → Known files input m.inputs → images b → held ≡ Some b → IsBufferedRun f m back images told said (Ok tt)
+pub ran_ok : {F I J : Type 0} (f : Ghosts F) (m : Making F I J) (back : Option F) (x : Option (List ℕ)) (files : List (Option (List ℕ))) (input : List ℕ) (images : List ℕ → Type 0) (b : List ℕ) (held told said : Option (List ℕ)) → BaseHas f back x → InputsAgree files input m.inputs → images b → held ≡ Some b → IsBufferedRun f m back images told said (Ok tt)
     → HasMade m.word m.options (made_here m x files input) told said held
 ran_ok f m back x files input images b held told said has known is e (inl ran) = made_ok m.word m.options (made_here m x files input) images b held told said is e (run_is f m back x files input images b told said (Ok tt) has known is ran)
 ran_ok f m back x files input images b held told said has known is e (inr none) = absurd (let no : ◌≡◌ {A = Result Unit Fault} (Ok tt) (Err NoMemory) = none.1 in cc)
 
-abbrev FileTold : {F R : Type 0} → Ghosts F → Raw R → Making F → (temporary name : List ℕ) (old new : NameCalls) → Option F → (told said : Option (List ℕ)) → Result Unit (ReplaceFault Fault) → Type 0
+abbrev FileTold : {F I J R : Type 0} → Ghosts F → Raw R → Making F I J → (temporary name : List ℕ) (old new : NameCalls) → Option F → (told said : Option (List ℕ)) → Result Unit (ReplaceFault Fault) → Type 0
 FileTold f r m temporary name old new back told said answer = TellsOfFile r (λ base before after images made. IsBufferedRun f m base images before after made) temporary name old new back told said answer
 
-with_sync : {F R : Type 0} (f : Ghosts F) (r : Raw R) (m : Making F) (back : Option F) (x : Option (List ℕ)) (files : List (Option (List ℕ))) (input temporary name : List ℕ) (old new before : NameCalls) (first held told said : Option (List ℕ)) (sync : NameCall) → renames old ≡ 0 → BaseHas f back x → Known files input m.inputs
+with_sync : {F I J R : Type 0} (f : Ghosts F) (r : Raw R) (m : Making F I J) (back : Option F) (x : Option (List ℕ)) (files : List (Option (List ℕ))) (input temporary name : List ℕ) (old new before : NameCalls) (first held told said : Option (List ℕ)) (sync : NameCall) → renames old ≡ 0 → BaseHas f back x → InputsAgree files input m.inputs
     → AreOfReplacing temporary name (IsDatabase f m back) old new → (t : FileTold f r m temporary name old new back told said (Ok tt))
     → new ≡ (sync, name, [], []) ∷ (Renamed t.sealed.len, temporary, name, calls_of t.sealed) ∷ before → ((calls : NameCalls) → renames ((sync, name, [], []) ∷ calls) ≡ renames calls)
     → ((calls : NameCalls) → Has (place_of name) first ((sync, name, [], []) ∷ calls) held → Has (place_of name) first calls held) → Has (place_of name) first new held → HasMade m.word m.options (made_here m x files input) told said held
@@ -243,7 +245,7 @@ with_sync f r m back x files input temporary name old new before first held told
     ran_ok f m back x files input (images_of t.left) got.0 held told said has known (t.same.no_other got.0 got.2) got.1
     (subst (IsBufferedRun f m back (images_of t.left) told said) (built_ok t.built t.answers) t.tells_so)
 
-replaced_ok : {F R : Type 0} (f : Ghosts F) (r : Raw R) (m : Making F) (back : Option F) (x : Option (List ℕ)) (files : List (Option (List ℕ))) (input temporary name : List ℕ) (old new : NameCalls) (told said : Option (List ℕ)) → renames old ≡ 0 → BaseHas f back x → Known files input m.inputs
+replaced_ok : {F I J R : Type 0} (f : Ghosts F) (r : Raw R) (m : Making F I J) (back : Option F) (x : Option (List ℕ)) (files : List (Option (List ℕ))) (input temporary name : List ℕ) (old new : NameCalls) (told said : Option (List ℕ)) → renames old ≡ 0 → BaseHas f back x → InputsAgree files input m.inputs
     → AreOfReplacing temporary name (IsDatabase f m back) old new → IsRenamed temporary name new → FileTold f r m temporary name old new back told said (Ok tt)
     → (first held : Option (List ℕ)) → Has (place_of name) first new held → HasMade m.word m.options (made_here m x files input) told said held
 replaced_ok f r m back x files input temporary name old new told said none has known calls renamed t first held h =
@@ -283,14 +285,14 @@ ended_so w o made images told said f (inr refused) =
     let same : f ≡ refused.fault = same_fault f refused.fault refused.is in
     inr (record { refusal = may_be f (subst IsMakeRefusal (sym same) refused.refusal); lines = λ plain. part_plain o.names made.told told said plain refused.lines })
 
-pub ran_err : {F : Type 0} (f : Ghosts F) (m : Making F) (back : Option F) (x : Option (List ℕ)) (files : List (Option (List ℕ))) (input : List ℕ) (images : List ℕ → Type 0) (b : List ℕ) (told said : Option (List ℕ)) (fault : Fault) → BaseHas f back x → Known files input m.inputs → images b → IsBufferedRun f m back images told said (Err fault)
+pub ran_err : {F I J : Type 0} (f : Ghosts F) (m : Making F I J) (back : Option F) (x : Option (List ℕ)) (files : List (Option (List ℕ))) (input : List ℕ) (images : List ℕ → Type 0) (b : List ℕ) (told said : Option (List ℕ)) (fault : Fault) → BaseHas f back x → InputsAgree files input m.inputs → images b → IsBufferedRun f m back images told said (Err fault)
     → EndsSo m.options (made_here m x files input) told said (Err fault) ⊎ WasRefused m.options (made_here m x files input) told said fault
 ran_err f m back x files input images b told said fault has known is (inl ran) = ended_so m.word m.options (made_here m x files input) images told said fault (run_is f m back x files input images b told said (Err fault) has known is ran)
 ran_err f m back x files input images b told said fault has known is (inr none) =
     inr (record { refusal = subst MayGiveUpCreate (sym (same_fault fault NoMemory none.1)) tt; lines = λ plain. said_nothing told said _ none.2 })
 
 -- all lines of what was built
-ran_lines : {F : Type 0} (f : Ghosts F) (m : Making F) (back : Option F) (x : Option (List ℕ)) (files : List (Option (List ℕ))) (input : List ℕ) (images : List ℕ → Type 0) (b : List ℕ) (told said : Option (List ℕ)) → BaseHas f back x → Known files input m.inputs → images b → IsBufferedRun f m back images told said (Ok tt)
+ran_lines : {F I J : Type 0} (f : Ghosts F) (m : Making F I J) (back : Option F) (x : Option (List ℕ)) (files : List (Option (List ℕ))) (input : List ℕ) (images : List ℕ → Type 0) (b : List ℕ) (told said : Option (List ℕ)) → BaseHas f back x → InputsAgree files input m.inputs → images b → IsBufferedRun f m back images told said (Ok tt)
     → IsPlain m.options → AppendsPrefix told said (made_lines (made_here m x files input))
 ran_lines f m back x files input images b told said has known is ran plain =
     whole_lines told said _ ((ran_ok f m back x files input images b (Some b) told said has known is refl ran).lines plain)
@@ -324,22 +326,6 @@ pub replaced_says : {B R T : Type 0} (failed : T → Type 0) (r : Raw R) (gives_
 replaced_says failed r gives_up tells t n old new back told said answer says (inl none) = subst (λ a. OutputSays (failed said) (answer_of a)) (sym none.is) (unbuilt_says (failed said) t n old new none.fault none.stops)
 replaced_says failed r gives_up tells t n old new back told said answer says (inr some) = answered_says (failed said) some.built answer some.answers (says (images_of some.left) some.built some.tells_so)
 
--- what is whole may be more
-weaker_new : (P Q : List ℕ → Type 0) → ((b : List ℕ) → P b → Q b) → (held : Option (List ℕ)) → IsNew P held → IsNew Q held
-weaker_new P Q go None new = absurd new
-weaker_new P Q go (Some b) new = go b new
-
-pub weaker_moments : (t n : List ℕ) (P Q : List ℕ → Type 0) (old new : NameCalls) → ((b : List ℕ) → P b → Q b) → AtEachMoment (LeavesOldOrNew t n P old) old new → AtEachMoment (LeavesOldOrNew t n Q old) old new
-weaker_moments t n P Q old new go h = record {
-  since = h.since;
-  calls = h.calls;
-  each = each_weaker (LeavesOldOrNew t n P old) (LeavesOldOrNew t n Q old) h.since old (λ now leaves place here apart first held may. elim (leaves place here apart first held may) as (λ _. MayHave place first old held ⊎ IsNew Q held ⊎ ((place t ≡ true) × (AreNamesApart t n now → ⊥))) [
-    | inl was ↦ inl was
-    | inr (inl new) ↦ inr (inl (weaker_new P Q go held new))
-    | inr (inr both) ↦ inr (inr both)
-  ]) h.each;
-}
-
 same_replace : (e g : ReplaceFault Fault) → ◌≡◌ {A = Result Unit (ReplaceFault Fault)} (Err e) (Err g) → e ≡ g
 same_replace e g h = cc
 
@@ -350,7 +336,7 @@ some_image r store temporary old new had cleared =
     let long = (store.long (store.known ∙ h.0)).each h.1.0 h.1.1 in
     (take store.len h.1.0, (h.1.0, h.1.1, long, refl))
 
-built_err : {F R : Type 0} (f : Ghosts F) (r : Raw R) (m : Making F) (back : Option F) (x : Option (List ℕ)) (files : List (Option (List ℕ))) (input temporary name : List ℕ) (new : NameCalls) (told said : Option (List ℕ)) (e : ReplaceFault Fault) (built : Result Unit Fault) (images : List ℕ → Type 0) (b : List ℕ) → BaseHas f back x → Known files input m.inputs → images b
+built_err : {F I J R : Type 0} (f : Ghosts F) (r : Raw R) (m : Making F I J) (back : Option F) (x : Option (List ℕ)) (files : List (Option (List ℕ))) (input temporary name : List ℕ) (new : NameCalls) (told said : Option (List ℕ)) (e : ReplaceFault Fault) (built : Result Unit Fault) (images : List ℕ → Type 0) (b : List ℕ) → BaseHas f back x → InputsAgree files input m.inputs → images b
     → BuilderAnswers built (Err e) → IsBufferedRun f m back images told said built → EndsSo m.options (made_here m x files input) told said (Err (fault_of e)) ⊎ WasRefused m.options (made_here m x files input) told said (fault_of e)
 built_err f r m back x files input temporary name new told said e (Ok done) images b has known is answers ran =
     inr (record { refusal = refusal_of e answers; lines = ran_lines f m back x files input images b told said has known is ran })
@@ -359,7 +345,7 @@ built_err f r m back x files input temporary name new told said e (Err fault) im
     subst (λ (g : ReplaceFault Fault). EndsSo m.options (made_here m x files input) told said (Err (fault_of g)) ⊎ WasRefused m.options (made_here m x files input) told said (fault_of g)) (sym same)
     (ran_err f m back x files input images b told said fault has known is ran)
 
-replaced_err : {F R : Type 0} (f : Ghosts F) (r : Raw R) (m : Making F) (back : Option F) (x : Option (List ℕ)) (files : List (Option (List ℕ))) (input temporary name : List ℕ) (old new : NameCalls) (told said : Option (List ℕ)) (e : ReplaceFault Fault) → BaseHas f back x → Known files input m.inputs → HadBytes temporary new
+replaced_err : {F I J R : Type 0} (f : Ghosts F) (r : Raw R) (m : Making F I J) (back : Option F) (x : Option (List ℕ)) (files : List (Option (List ℕ))) (input temporary name : List ℕ) (old new : NameCalls) (told said : Option (List ℕ)) (e : ReplaceFault Fault) → BaseHas f back x → InputsAgree files input m.inputs → HadBytes temporary new
     → BuilderTells r (λ base. base ≡ m.base) (λ base before after images made. IsBufferedRun f m base images before after made) temporary name old new back told said (Err e)
     → (EndsSo m.options (made_here m x files input) told said (Err (fault_of e)) × IsGone temporary new) ⊎ WasRefused m.options (made_here m x files input) told said (fault_of e)
 replaced_err f r m back x files input temporary name old new told said e has known had (inl none) =
@@ -377,7 +363,7 @@ replaced_err f r m back x files input temporary name old new told said e has kno
 
 -- ---- a replacement
 
-no_file : {F R : Type 0} (f : Ghosts F) (r : Raw R) (m : Making F) (temporary name : List ℕ) (old new : NameCalls) (back : Option F) (told said : Option (List ℕ)) → BuilderTells r (λ base. base ≡ m.base) (λ base before after images made. IsBufferedRun f m base images before after made) temporary name old new back told said (Ok tt)
+no_file : {F I J R : Type 0} (f : Ghosts F) (r : Raw R) (m : Making F I J) (temporary name : List ℕ) (old new : NameCalls) (back : Option F) (told said : Option (List ℕ)) → BuilderTells r (λ base. base ≡ m.base) (λ base before after images made. IsBufferedRun f m base images before after made) temporary name old new back told said (Ok tt)
     → FileTold f r m temporary name old new back told said (Ok tt)
 no_file f r m temporary name old new back told said (inl none) = absurd (let no : ◌≡◌ {A = Result Unit (ReplaceFault Fault)} (Ok tt) (Err none.fault) = none.is in cc)
 no_file f r m temporary name old new back told said (inr t) = t
@@ -397,7 +383,7 @@ record Moments (w : ℕ) (temporary name : List ℕ) (made : Made) (old new : Na
   moments : AtEach (LeavesOldOrMade w name made old) since old
   others : AtEach (KeepsOthers temporary name old) since old
 
-answered : {F R : Type 0} (f : Ghosts F) (r : Raw R) (m : Making F) (x : Option (List ℕ)) (files : List (Option (List ℕ))) (input temporary name : List ℕ) (old new : NameCalls) (back : Option F) (told said : Option (List ℕ)) (answer : Result Unit (ReplaceFault Fault)) → renames old ≡ 0 → BaseHas f back x → Known files input m.inputs
+answered : {F I J R : Type 0} (f : Ghosts F) (r : Raw R) (m : Making F I J) (x : Option (List ℕ)) (files : List (Option (List ℕ))) (input temporary name : List ℕ) (old new : NameCalls) (back : Option F) (told said : Option (List ℕ)) (answer : Result Unit (ReplaceFault Fault)) → renames old ≡ 0 → BaseHas f back x → InputsAgree files input m.inputs
     → Moments m.word temporary name (made_here m x files input) old new → AreOfReplacing temporary name (IsDatabase f m back) old new → OnOk answer (IsRenamed temporary name new) → OnErr answer (KeepsName name old new)
     → BuilderTells r (λ base. base ≡ m.base) (λ base before after images made. IsBufferedRun f m base images before after made) temporary name old new back told said answer
     → ReplacesSo m.word m.options temporary name (made_here m x files input) old new told said (answer_of answer)
@@ -422,7 +408,7 @@ answered f r m x files input temporary name old new back told said (Err e) none 
   err = λ had. replaced_err f r m back x files input temporary name old new told said e has known had lines;
 }
 
-pub replaces_so : {F R : Type 0} {opened opens : OpenCalls} {start end : Option (List ℕ)} (f : Ghosts F) (r : Raw R) (m : Making F) (x : Option (List ℕ)) (files : List (Option (List ℕ))) (input temporary name : List ℕ) (old new : NameCalls) (back : Option F) (told said : Option (List ℕ)) (result : Result Unit Fault) → temporary ≢ name → renames old ≡ 0 → BaseHas f back x → Known files input m.inputs
+pub replaces_so : {F I J R : Type 0} {opened opens : OpenCalls} {start end : Option (List ℕ)} (f : Ghosts F) (r : Raw R) (m : Making F I J) (x : Option (List ℕ)) (files : List (Option (List ℕ))) (input temporary name : List ℕ) (old new : NameCalls) (back : Option F) (told said : Option (List ℕ)) (result : Result Unit Fault) → temporary ≢ name → renames old ≡ 0 → BaseHas f back x → InputsAgree files input m.inputs
     → Replaces f r m temporary name (state_of opened old start told) (state_of opens new end said) back result → ReplacesSo m.word m.options temporary name (made_here m x files input) old new told said result
 replaces_so f r m x files input temporary name old new back told said result apart none has known h =
     let moments = h.moments in

@@ -20,7 +20,7 @@ use Rattle.cdb.proofs.CreateReads.{asking_none, moments_first}
 use Rattle.cdb.proofs.Creates.{creates_so}
 use Rattle.cdb.proofs.Oracles.{all_taken, handed_all}
 use Rattle.cdb_system.specs.State.{Files, files_of}
-use Rattle.cdb.specs.Agreeing.{machine_of}
+use Rattle.cdb.specs.Handing.{machine_of}
 
 -- ---- the end
 

@@ -1,8 +1,8 @@
 -- The words that most proofs here name.
-pub use Rattle.cdb.specs.Agreeing.{HandsInputs, OpensNoMore, inputs_of}
+pub use Rattle.cdb.specs.Handing.{HandsInputs, InputsTaken, OpensNoMore, inputs_taken}
 pub use Rattle.cdb.specs.Contents.{making_of}
 pub use Rattle.cdb.specs.Created.{Created, create_of, in_place, in_temporary, is_in_place, is_no_name, is_read, placed, unopened}
-pub use Rattle.cdb.specs.Creating.{AsksAll, AsksEach, Creates, HandsBase, HasDatabase, IsBufferedRun, IsDatabase, IsMakeRun, Making, Replaces, SeesName, Syncs, WritesAll, answer_of}
+pub use Rattle.cdb.specs.Creating.{AsksAll, AsksEach, Creates, HandsBase, HasDatabase, IsBufferedRun, IsDatabase, IsMakeRun, Making, ReadsMaking, Replaces, SeesName, Syncs, WritesAll, answer_of}
 pub use Rattle.cdb.specs.Foretold.{IsTaken}
 pub use Rattle.cdb.specs.ForetoldCreate.{HadBytes, HoldsAll, HonestCreate, IsNoAlias, IsNoFailedRemoval, IsNoFailedRename, KeepsAll, LeavesAll, passing, place_of}
 pub use Rattle.cdb.specs.Performs.{PerformsIn, Runs}
@@ -25,8 +25,6 @@ pub use Rattle.cdb_show.proofs.OutputFaults.{says_more}
 pub use Rattle.cdb_show.proofs.PlacedReaders.{all_passed, same_places}
 pub use Rattle.cdb_show.proofs.Writers.{prefix_kept}
 pub use Rattle.cdb_show.specs.Message.{fault_line}
-pub use Rattle.cdb_show.specs.Runs.Incoming.{Known}
-pub use Rattle.cdb_show.specs.Runs.Inputs.{InputsLeft}
 pub use Rattle.cdb_show.specs.Status.{plain_status}
 pub use Rattle.cdb_show.specs.Views.Noted.{AreInPlace}
 pub use Rattle.cdb_show.specs.Views.Output.{HasHandedOn, OutputFailed, OutputSays, held_by, output_bytes, writer_bytes}
@@ -51,7 +49,6 @@ pub use Rattle.std.proofs.KnownBytes.{Appends-kept, Keeps-refl, Keeps-trans}
 pub use Rattle.std.proofs.lemmas.Bool.{cond-false, cond-true, false_from_ne_true, or_from, or_left, or_right}
 pub use Rattle.std.proofs.lemmas.Grind.{not_there}
 pub use Rattle.std.proofs.lemmas.List.{append_cancel_right}
-pub use Rattle.std.proofs.lemmas.Result.{on_ok_weaker}
 pub use Rattle.std.proofs.lemmas.Slice.Eq.{bytes_eq-Decides}
 pub use Rattle.std.specs.Io.KnownBytes.{Appends, Keeps}
 pub use Rattle.std.specs.List.{AllByRecursion}

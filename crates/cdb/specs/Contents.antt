@@ -1,25 +1,27 @@
 -- What a database is made of, as a clause reads it.
 use Rattle.std.specs.Prelude.{ℕ, Option, Some, map, option_map, string_bytes, ◌≡◌, false, List, OnOk}
 use Rattle.cdb_form.specs.declared.width.Width.{Ghosts as Widths}
-use Rattle.cdb_show.specs.Runs.Inputs.{InputsLeft}
+use Rattle.cdb_form.specs.Views.Feed.{Feed}
+use Rattle.cdb_show.specs.declared.inputs.Inputs.{Inputs}
 use Rattle.cdb_system.specs.Opening.{none_left}
 use Rattle.cdb_system.specs.declared.left.Left.{Left}
 use Rattle.cdb.specs.Creating.{Making, Wanted}
+use Rattle.cdb.specs.Handing.{inputs_taken}
 use Rattle.cdb.specs.declared.contents.Contents.{Contents}
 use Rattle.cdb.specs.declared.contents.Sources.{Sources}
 use Rattle.cdb.specs.declared.creating.Creation.{Creation}
 use Rattle.cdb.specs.Created.{Created, base_of}
 use Rattle.cdb_system.specs.Oracle.{Disk, inputs_of, is_standard}
 
--- of what was opened, whose inputs have these bytes
-abbrev pub making_of : {L F J I : Type 0} {l : Widths L} → (word greatest : ℕ) → Contents L F J I l
-    → InputsLeft → Making F
-making_of word greatest contents inputs = record {
+-- of what was opened, whose inputs are returned so
+abbrev pub making_of : {L F J I : Type 0} {l : Widths L} → (word greatest : ℕ) → (own : J → Feed)
+    → (shared : I → Feed) → Contents L F J I l → (handed : Inputs J I) → Making F J I
+making_of word greatest own shared contents handed = record {
   word = word;
   greatest = greatest;
   options = contents.run.options;
   base = contents.sources.base;
-  inputs = inputs;
+  inputs = inputs_taken own shared contents.sources.inputs handed;
 }
 
 abbrev pub wanted_of : (word greatest : ℕ) → Creation → Wanted

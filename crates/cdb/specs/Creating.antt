@@ -20,9 +20,8 @@ use Rattle.cdb_store.specs.contracts.memory.MemStoreStore.TheImpl.{ghosts as in_
 use Rattle.cdb_store.specs.declared.memory.MemStore.{MemStore}
 use Rattle.cdb_store.specs.declared.raw.RawFile.{Ghosts as Raw}
 use Rattle.cdb_store.specs.declared.store.Store.{Ghosts}
-use Rattle.cdb_make.specs.Views.Maker.{WhereHonest}
-use Rattle.cdb_show.specs.Runs.Inputs.{InputsLeft}
-use Rattle.cdb_tool.specs.Runs.Make.{HandsBack, BaseHasFailed, IsOfBase, IsOfStore, Makes, OfBase, MakeRuns, terms_of}
+use Rattle.cdb_tool.specs.Runs.InputsRead.{RunsRead, run_state}
+use Rattle.cdb_tool.specs.Runs.Make.{HandsBack, BaseHasFailed, IsOfBase, IsOfStore, terms_of}
 use Rattle.cdb_show.specs.Views.Output.{OutputSays}
 use Rattle.cdb_show.specs.declared.inputs.Inputs.{Inputs}
 use Rattle.cdb_show.specs.declared.fault.Fault.{Fault}
@@ -34,7 +33,7 @@ use Rattle.cdb_system.specs.Inputs.{IsStandard, MissesBase, OpensBase, OpensInpu
 use Rattle.cdb_system.specs.Opening.{Empties, MissesEmptying, OpenCalls, base_left, named_as}
 use Rattle.cdb_system.specs.declared.left.Left.{Left}
 use Rattle.cdb_system.specs.declared.open_trace.OpenCall.TheVariants.{Own}
-use Rattle.cdb.specs.Agreeing.{HandsInputs, OfAgreeing, OpensNoMore, Machine}
+use Rattle.cdb.specs.Handing.{HandsInputs, InputsTaken, OpensNoMore, Machine, inputs_taken}
 use Rattle.cdb.specs.Created.{head_fault}
 
 -- ---- the database
@@ -51,26 +50,33 @@ pub record Wanted : Type 0 where
   pub temporary : Option (List ℕ)
 
 -- what it is made of: words of so many bytes, the greatest length of a file, the options, the base as
--- it was opened, and what the inputs have
-pub record Making (F : Type 0) : Type 0 where
+-- it was opened, and the inputs
+pub record Making (F I J : Type 0) : Type 1 where
   pub word : ℕ
   pub greatest : ℕ
   pub options : RunOptions
   pub base : Option F
-  pub inputs : InputsLeft
+  pub inputs : InputsTaken I J
+
+-- a run of it read the inputs so, and its base and inputs are returned: these are the images that it leaves, the lines
+-- that were said, and the answer
+abbrev pub ReadsMaking : {F I J : Type 0} → Ghosts F → Making F I J → (back : Option F)
+    → (images : List ℕ → Type 0) → (told said : Option (List ℕ)) → Result Unit Fault → Type 0
+ReadsMaking f m back images told said made = RunsRead (terms_of m.word m.greatest m.options)
+    m.inputs.feeds f (run_state m.base m.inputs.opened told) (run_state back m.inputs.handed said)
+    images made
 
 -- these bytes are the database of them, of which the base is left so
-pub record IsDatabase {F : Type 0} (f : Ghosts F) (m : Making F) (back : Option F) (b : List ℕ)
+pub record IsDatabase {F I J : Type 0} (f : Ghosts F) (m : Making F I J) (back : Option F) (b : List ℕ)
     : Type 0 where
   pub hands : HandsBack f m.base back
   pub told : Option (List ℕ)
   pub said : Option (List ℕ)
-  pub is : OfBase f back
-      (λ x. Makes (terms_of m.word m.greatest m.options) x m.inputs (λ c. c ≡ b) told said)
+  pub is : ReadsMaking f m back (λ c. c ≡ b) told said (Ok tt)
 
 -- a store has it
-abbrev pub HasDatabase : {F : Type 0} → Ghosts F → Making F → Option F → (List ℕ → Type 0)
-    → Type 0
+abbrev pub HasDatabase : {F I J : Type 0} → Ghosts F → Making F I J → Option F
+    → (List ℕ → Type 0) → Type 0
 HasDatabase f m back images = (b : List ℕ) → images b → IsDatabase f m back b
 
 -- a fault of the store that is built in comes only if that store failed since it had failed so often,
@@ -85,23 +91,22 @@ HasCauseInStore s store left made =
 
 -- a run made it, or failed to: the base as it is then, the images that are left, the lines that were
 -- said, and the answer. A fault of the base's store comes only if that store failed
-pub record IsMakeRun {F : Type 0} (f : Ghosts F) (m : Making F) (back : Option F)
+pub record IsMakeRun {F I J : Type 0} (f : Ghosts F) (m : Making F I J) (back : Option F)
     (images : List ℕ → Type 0) (told said : Option (List ℕ)) (made : Result Unit Fault) : Type 0
   where
     pub hands : HandsBack f m.base back
     pub base_failed : IfErr made (λ fault. IsOfBase fault → BaseHasFailed f m.base back)
-    pub runs : WhereHonest images (OfBase f back (λ x.
-        MakeRuns (terms_of m.word m.greatest m.options) x m.inputs images told said made))
+    pub runs : ReadsMaking f m back images told said made
 
 -- one did in a store, which has this then
-pub record MakesIn {S F : Type 0} (s : Ghosts S) (f : Ghosts F) (m : Making F) (store left : S)
-    (back : Option F) (told said : Option (List ℕ)) (made : Result Unit Fault) : Type 0 where
+pub record MakesIn {S F I J : Type 0} (s : Ghosts S) (f : Ghosts F) (m : Making F I J)
+    (store left : S) (back : Option F) (told said : Option (List ℕ)) (made : Result Unit Fault) : Type 0 where
   pub run : IsMakeRun f m back (s.image left) told said made
   pub failed : HasCauseInStore s store left made
   pub settled : OnOk made (s.settled left)
 
 -- one did through a buffer; or memory for that was refused, and no line was said
-abbrev pub IsBufferedRun : {F : Type 0} → Ghosts F → Making F → (back : Option F)
+abbrev pub IsBufferedRun : {F I J : Type 0} → Ghosts F → Making F I J → (back : Option F)
     → (images : List ℕ → Type 0) → (told said : Option (List ℕ)) → Result Unit Fault → Type 0
 IsBufferedRun f m back images told said made =
     IsMakeRun f m back images told said made
@@ -116,7 +121,7 @@ pub record WritesAll (start end : Option (List ℕ)) (bytes : List ℕ) (result 
   pub err : IfErr result (λ fault. (fault ≡ Output) × AppendsPrefix start end bytes)
 
 -- it is made in memory and written; or it is not made, and nothing is written
-pub record MakesOnOutput {F : Type 0} (f : Ghosts F) (m : Making F) (back : Option F)
+pub record MakesOnOutput {F I J : Type 0} (f : Ghosts F) (m : Making F I J) (back : Option F)
     (start end told said : Option (List ℕ)) (result : Result Unit Fault) : Type 0 where
   pub empty : MemStore
   pub store : MemStore
@@ -212,7 +217,7 @@ pub record HandsBase {F I J M : Type 0} (base : Option F) (left : Left F M I J) 
 
 -- a run was made in the store that came, which was emptied by these calls. It has the database once the run
 -- and its sync succeed, and the create succeeds if the name has the file then. It is left so
-pub record MakesEmptied {F I J M N R Y : Type 0} (files : Files F I J M N R Y) (m : Making F) (name : List ℕ)
+pub record MakesEmptied {F I J M N R Y : Type 0} (files : Files F I J M N R Y) (m : Making F I J) (name : List ℕ)
     (emptied : OpenCalls) (old new : State OpenCalls) (left : Left F M I J) (result : Result Unit Fault)
     : Type 0 where
   pub store : M
@@ -232,7 +237,7 @@ pub record MakesEmptied {F I J M N R Y : Type 0} (files : Files F I J M N R Y) (
 
 -- a file that is read may be the one of the name; or none is, as was looked up for each, and then the file of the name
 -- is not emptied, or it is, once its lock is held. The base is returned, as it was if nothing was built
-abbrev pub MakesInPlace : {F I J M N R Y : Type 0} → Files F I J M N R Y → Making F → Wanted
+abbrev pub MakesInPlace : {F I J M N R Y : Type 0} → Files F I J M N R Y → Making F I J → Wanted
     → (old new : State OpenCalls) → Left F M I J → Result Unit Fault → Type 0
 MakesInPlace files m wanted old new left result =
     (FindsOne wanted.name wanted.base wanted.inputs old.named new.named × (new.opened ≡ old.opened)
@@ -261,7 +266,7 @@ answer_of (Err fault) = Err (fault_of fault)
 -- a file with the database replaces the one of the name, at once or not at all, by guarded calls of which
 -- one is a rename, and none after a fault; nothing is done for a text that no file can have as its name.
 -- The lines are those of the run that was made in it
-pub record Replaces {F R : Type 0} (f : Ghosts F) (r : Raw R) (m : Making F)
+pub record Replaces {F I J R : Type 0} (f : Ghosts F) (r : Raw R) (m : Making F I J)
     (temporary name : List ℕ) (old new : State OpenCalls) (back : Option F)
     (result : Result Unit Fault) : Type 0 where
   pub answer : Result Unit (ReplaceFault Fault)
@@ -284,7 +289,7 @@ pub record Replaces {F R : Type 0} (f : Ghosts F) (r : Raw R) (m : Making F)
       temporary name old.named new.named back old.errors new.errors answer
 
 -- a file that is read may have the temporary name; or none has, as was looked up for each
-abbrev pub MakesApart : {F R : Type 0} → Ghosts F → Raw R → Making F → (temporary : List ℕ)
+abbrev pub MakesApart : {F I J R : Type 0} → Ghosts F → Raw R → Making F I J → (temporary : List ℕ)
     → Wanted → (old new : State OpenCalls) → (back : Option F) → Result Unit Fault → Type 0
 MakesApart f r m temporary wanted old new back result =
     (FindsOne temporary wanted.base wanted.inputs old.named new.named × (back ≡ m.base)
@@ -293,7 +298,7 @@ MakesApart f r m temporary wanted old new back result =
     × Replaces f r m temporary wanted.name (record old { named = mid }) new back result)
 
 -- it is made in place; or in a temporary file, unless the allocation of its name failed
-abbrev pub MakesNamed : {F I J M N R Y : Type 0} → Machine F I J M N R Y → Making F → Wanted
+abbrev pub MakesNamed : {F I J M N R Y : Type 0} → Machine F I J M N R Y → Making F I J → Wanted
     → (old new : State OpenCalls) → Left F M I J → Result Unit Fault → Type 0
 MakesNamed machine m wanted old new left result =
     (IsInPlace wanted.name wanted.temporary × MakesInPlace machine.files m wanted old new left result)
@@ -352,7 +357,7 @@ pub record NotOpened {F I J M N R Y : Type 0} (w : ℕ) (files : Files F I J M N
       × StopsOpening files.system inputs mid new fault)
 
 -- the database is made on standard output; or under its name, and then standard output stays as it is
-abbrev pub MakesAt : {F I J M N R Y : Type 0} → Machine F I J M N R Y → Making F → Wanted
+abbrev pub MakesAt : {F I J M N R Y : Type 0} → Machine F I J M N R Y → Making F I J → Wanted
     → (old new : State OpenCalls) → Left F M I J → Result Unit Fault → Type 0
 MakesAt machine m wanted old new left result =
     (IsStandard wanted.name × (new.opened ≡ old.opened) × (new.named ≡ old.named)
@@ -361,16 +366,15 @@ MakesAt machine m wanted old new left result =
     ⊎ ((IsStandard wanted.name → ⊥) × Keeps old.output new.output
     × MakesNamed machine m wanted old new left result)
 
--- Inputs were opened and returned, and no other file was opened to be read. Of all inputs that agree with their
--- readers, this is what was done.
+-- Inputs were opened and returned, and no other file was opened to be read. This is what was done of them.
 pub record HandsAll {F I J M N R Y : Type 0} (files : Files F I J M N R Y) (standard : Standard J)
-    (inputs : Inputs I J) (mid new : OpenCalls) (left : Left F M I J) (Does : InputsLeft → Type 0)
+    (inputs : Inputs I J) (mid new : OpenCalls) (left : Left F M I J) (Does : InputsTaken I J → Type 0)
     : Type 0 where
   pub shared : inputs.shared ≡ standard.reader
   pub handed : Inputs I J
   pub hands : HandsInputs inputs handed left
   pub opens : OpensNoMore mid new
-  pub does : OfAgreeing files.feed standard.feed inputs handed Does
+  pub does : Does (inputs_taken files.feed standard.feed inputs handed)
 
 -- all that is read is opened, and then the database is made of it; or nothing is made. A base that was opened is
 -- returned, as it came if nothing was built; so is a file that was made in place, and so are the readers of the inputs

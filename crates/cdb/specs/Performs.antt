@@ -19,7 +19,7 @@ use Rattle.cdb_show.specs.Views.Output.{OutputSays}
 use Rattle.cdb_show.specs.declared.fault.Fault.{Fault}
 use Rattle.cdb_show.specs.declared.fault.Fault.TheVariants.{Output}
 use Rattle.cdb.specs.Creating.{Creates}
-use Rattle.cdb.specs.Agreeing.{Machine}
+use Rattle.cdb.specs.Handing.{Machine}
 use Rattle.cdb.specs.Reasons.{CanHaveNoFile, HasReason, calls_made, left_reasons}
 use Rattle.cdb_system.specs.Causes.{Explains, called_of}
 use Rattle.cdb_system.specs.Opening.{none_left}

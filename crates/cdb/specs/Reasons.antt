@@ -25,7 +25,7 @@ use Rattle.cdb_system.specs.State.{temporary_of}
 use Rattle.cdb_system.specs.declared.left.Left.{Left}
 use Rattle.cdb_system.specs.declared.open_trace.OpenCall.{OpenCall}
 use Rattle.cdb_system.specs.declared.open_trace.OpenCall.TheVariants.{Locked, Own, Stream, Unopened}
-use Rattle.cdb.specs.Agreeing.{Machine}
+use Rattle.cdb.specs.Handing.{Machine}
 use Rattle.cdb.specs.declared.contents.Sources.{Sources}
 
 -- ---- what has failed

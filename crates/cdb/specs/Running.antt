@@ -8,7 +8,7 @@ use Rattle.cdb_show.specs.Views.Output.{HasHandedOn, OutputFailed, held_by, outp
 use Rattle.cdb_show.specs.declared.output.Output.{Output as Writer}
 use Rattle.cdb.specs.Foretold.{IsForetold, IsTaken}
 use Rattle.cdb.specs.ForetoldCreate.{IsCreateForetold}
-use Rattle.cdb.specs.Agreeing.{Machine}
+use Rattle.cdb.specs.Handing.{Machine}
 use Rattle.cdb.specs.Performs.{Runs}
 use Rattle.cdb.specs.declared.streams.Streams.{Streams}
 use Rattle.cdb_system.specs.State.{Given, Standard, State, failed_of, given_of, state_of}

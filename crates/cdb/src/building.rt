@@ -2,7 +2,6 @@
 ghost use Rattle.std.specs.Prelude.{◌≡◌, ◌<◌, OnOk, IfErr, ⊤};
 ghost use Rattle.cdb_show.specs.Views.Noted.{AreInPlace};
 ghost use Rattle.cdb_show.specs.Views.Output.{OutputSays};
-ghost use Rattle.cdb.specs.Agreeing.{OfAgreeing};
 ghost use Rattle.cdb.specs.Creating.{HasCauseInStore, IsBufferedRun, IsCaused, IsDatabase, IsMakeRun};
 ghost use Rattle.cdb.specs.Contents.{making_of};
 ghost use Rattle.cdb.specs.Reasons.{HasReason, run_reasons};
@@ -28,10 +27,9 @@ where
     S: Store,
     Y: System,
     E: Sink,
-    ensures runs { OfAgreeing Y.Stream.feed Y.Input.feed contents.entry.sources.inputs
-        result.1.inputs (λ inputs. IsMakeRun Y.File.Store
-        (making_of L.WORD L.GREATEST contents.entry inputs) result.1.base
-        (S.image result.0) (E.contents errors.old) (E.contents errors.new) result.2) }
+    ensures runs { IsMakeRun Y.File.Store (making_of L.WORD L.GREATEST Y.Stream.feed Y.Input.feed
+        contents.entry result.1.inputs) result.1.base
+        (S.image result.0) (E.contents errors.old) (E.contents errors.new) result.2 }
     ensures failed { HasCauseInStore S.Store store result.0 result.2 }
     ensures reason { IfErr result.2 (HasReason (run_reasons Y.File.Store Y.Stream.feed Y.Input.feed
         result.1 (S.failures store < S.failures result.0) ⊥)) }
@@ -76,16 +74,14 @@ where
 
     type Back = SourcesOf<Y>;
 
-    ghost builds = { λ b back bytes.
-        OfAgreeing Y.Stream.feed Y.Input.feed b.contents.sources.inputs back.inputs (λ inputs.
-        IsDatabase Y.File.Store (making_of L.WORD L.GREATEST b.contents inputs) back.base bytes) };
+    ghost builds = { λ b back bytes. IsDatabase Y.File.Store (making_of L.WORD L.GREATEST
+        Y.Stream.feed Y.Input.feed b.contents back.inputs) back.base bytes };
 
     ghost fails = { λ _ old new fault. IsCaused fault (S.failures old) (S.failures new) };
 
     ghost tells = { λ b back told said images made.
-        OfAgreeing Y.Stream.feed Y.Input.feed b.contents.sources.inputs back.inputs (λ inputs.
-        IsBufferedRun Y.File.Store (making_of L.WORD L.GREATEST b.contents inputs) back.base images
-        (E.contents told) (E.contents said) made)
+        IsBufferedRun Y.File.Store (making_of L.WORD L.GREATEST Y.Stream.feed Y.Input.feed
+        b.contents back.inputs) back.base images (E.contents told) (E.contents said) made
         × AreInPlace b.contents.sources.inputs.readers.items back.inputs.readers.items
         × OutputSays (E.failed said) made
         × IfErr made (HasReason (run_reasons Y.File.Store Y.Stream.feed Y.Input.feed back ⊤ ⊥)) };

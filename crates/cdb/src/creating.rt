@@ -3,7 +3,7 @@ ghost use Rattle.std.specs.Prelude.{◌⊎◌, ◌≡◌, ◌≤◌, IfOk, IfErr
 ghost use Rattle.cdb_show.specs.Views.Noted.{AreInPlace};
 ghost use Rattle.cdb_show.specs.Views.Output.{OutputSays};
 ghost use Rattle.cdb_form.specs.Format.{head_size};
-ghost use Rattle.cdb.specs.Agreeing.{OfAgreeing, machine_of};
+ghost use Rattle.cdb.specs.Handing.{machine_of};
 ghost use Rattle.cdb.specs.Creating.{Creates, MakesOnOutput, IsOfNoOutput, NotOpened, OpensAll, WritesAll};
 ghost use Rattle.cdb_system.specs.State.{temporary_of, files_of, standard_of, state_of};
 ghost use Rattle.cdb.specs.Contents.{making_of, wanted_of};
@@ -171,11 +171,10 @@ where
     Y: System,
     O: Sink,
     E: Sink,
-    ensures makes { OfAgreeing Y.Stream.feed Y.Input.feed contents.entry.sources.inputs
-        result.0.inputs (λ inputs. MakesOnOutput Y.File.Store
-        (making_of L.WORD L.GREATEST contents.entry inputs)
+    ensures makes { MakesOnOutput Y.File.Store (making_of L.WORD L.GREATEST
+        Y.Stream.feed Y.Input.feed contents.entry result.0.inputs)
         result.0.base (O.contents streams.old.output) (O.contents streams.new.output)
-        (E.contents streams.old.errors) (E.contents streams.new.errors) result.1) }
+        (E.contents streams.old.errors) (E.contents streams.new.errors) result.1 }
     ensures placed { AreInPlace contents.entry.sources.inputs.readers.items
         result.0.inputs.readers.items }
     ensures reason { IfErr result.1 (HasReason (run_reasons Y.File.Store Y.Stream.feed Y.Input.feed

@@ -4,7 +4,7 @@ ghost use Rattle.cdb_show.specs.Command.{asked_in, FitsIn, usage_text, version_t
 ghost use Rattle.cdb_form.specs.Format.{head_size};
 ghost use Rattle.std.specs.Prelude.{◌⊎◌, ◌≡◌, ℕ, List, Option, OnErr, IfErr, map, string_bytes};
 ghost use Rattle.cdb_form.specs.Views.KnownBytes.{Writes};
-ghost use Rattle.cdb.specs.Agreeing.{machine_of};
+ghost use Rattle.cdb.specs.Handing.{machine_of};
 ghost use Rattle.cdb.specs.Performs.{IsShown, IsUntouched, Performs};
 ghost use Rattle.cdb.specs.Reasons.{CanHaveNoFile, HasReason, IfCreate, calls_made, left_reasons};
 ghost use Rattle.cdb_system.specs.Reading.{Tells};

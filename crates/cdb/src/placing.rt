@@ -2,7 +2,7 @@
 ghost use Rattle.std.specs.Prelude.{◌≡◌, ◌⊎◌, ◌∷◌, [], true, false, map, option_map, string_bytes, IfOk, IfErr, OnOk, List, Option, ℕ};
 ghost use Rattle.cdb_show.specs.Views.Noted.{AreInPlace};
 ghost use Rattle.cdb_show.specs.Views.Output.{OutputSays};
-ghost use Rattle.cdb.specs.Agreeing.{HandsInputs, OfAgreeing, OpensNoMore, machine_of};
+ghost use Rattle.cdb.specs.Handing.{HandsInputs, OpensNoMore, machine_of};
 ghost use Rattle.cdb.specs.Creating.{AsksAll, AsksBase, AsksEach, AsksOne, FindsBase, FindsInput, FindsOne, MayBeInput, MayBeOne, MayBeStandard, MakesApart, MakesInPlace, SeesName, Syncs, answer_of};
 ghost use Rattle.cdb_system.specs.Inputs.{inputs_read};
 ghost use Rattle.cdb_system.specs.Opening.{Empties, MissesEmptying, OpenCalls, named_as};
@@ -180,13 +180,12 @@ where
     E: Sink,
     ensures makes { (handed : Inputs Y.Stream Y.Input) × HandsInputs contents.entry.sources.inputs
         handed result.0 × ((output : Option (List ℕ))
-        → OfAgreeing Y.Stream.feed Y.Input.feed contents.entry.sources.inputs handed (λ inputs.
-        MakesInPlace (files_of Y.File.Store Y.Made.Store Y.Stream.feed Y.System)
-        (making_of L.WORD L.GREATEST contents.entry inputs)
+        → MakesInPlace (files_of Y.File.Store Y.Made.Store Y.Stream.feed Y.System)
+        (making_of L.WORD L.GREATEST Y.Stream.feed Y.Input.feed contents.entry handed)
         (wanted_of L.WORD L.GREATEST creation.entry)
         (state_of (Y.calls system.old) (Y.Names.calls names.old) output (E.contents errors.old))
         (state_of (Y.calls system.new) (Y.Names.calls names.new) output (E.contents errors.new))
-        result.0 result.1)) }
+        result.0 result.1) }
     ensures opens { OpensNoMore (Y.calls system.old) (Y.calls system.new) }
     ensures reason { IfErr result.1 (HasReason (left_reasons (machine_of Y.File.Store Y.Made.Store Y.Stream.feed Y.System
         Y.Names.File.RawFile) Y.Input.feed
@@ -257,13 +256,12 @@ where
     Y: System,
     E: Sink,
     ensures replaces { (opened : OpenCalls) (output : Option (List ℕ))
-        → OfAgreeing Y.Stream.feed Y.Input.feed contents.entry.sources.inputs result.0.inputs
-        (λ inputs. MakesApart Y.File.Store Y.Names.File.RawFile
-        (making_of L.WORD L.GREATEST contents.entry inputs)
+        → MakesApart Y.File.Store Y.Names.File.RawFile (making_of L.WORD L.GREATEST
+        Y.Stream.feed Y.Input.feed contents.entry result.0.inputs)
         temporary.now (wanted_of L.WORD L.GREATEST creation.entry)
         (state_of opened (Y.Names.calls names.old) output (E.contents errors.old))
         (state_of opened (Y.Names.calls names.new) output (E.contents errors.new))
-        result.0.base result.1) }
+        result.0.base result.1 }
     ensures placed { AreInPlace contents.entry.sources.inputs.readers.items
         result.0.inputs.readers.items }
     ensures reason { IfErr result.1 (HasReason (run_reasons Y.File.Store Y.Stream.feed Y.Input.feed

@@ -3,7 +3,7 @@ ghost use Rattle.std.specs.Prelude.{◌≡◌, ◌⊎◌, Err, map, string_bytes
 ghost use Rattle.cdb_show.specs.Command.{asked_in, has_wide_words, IsInRange};
 ghost use Rattle.cdb_show.specs.Views.Output.{output_bytes, HasHandedOn, OutputFailed, OutputSays, writer_bytes};
 ghost use Rattle.cdb_system.specs.Causes.{more_of, Explains, called_of};
-ghost use Rattle.cdb.specs.Agreeing.{machine_of};
+ghost use Rattle.cdb.specs.Handing.{machine_of};
 ghost use Rattle.cdb.specs.Performs.{Does, HandsOn, IsUntouched};
 ghost use Rattle.cdb.specs.Running.{Answers, IsRun, given_by, world_of};
 ghost use Rattle.cdb_system.specs.State.{given_of, standard_of, state_of};

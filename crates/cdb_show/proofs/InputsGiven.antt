@@ -206,7 +206,7 @@ module _ {R S Item Fault : Type 0} (own : R → Feed) (shared : S → Feed) (p :
   are_given number (items ∷ read) stop [] after old new inputs known takes had long m = absurd takes
   are_given number (items ∷ read) stop (reader ∷ before) [] old new inputs known takes had long m = absurd takes
 
-  left_known : (read : List (List Item)) (stop : Stop Item Fault) (before after : List (InputReader R)) (old new : S) → (shared old).known → AreRead own shared p read stop before after old new → (shared new).known
+  pub left_known : (read : List (List Item)) (stop : Stop Item Fault) (before after : List (InputReader R)) (old new : S) → (shared old).known → AreRead own shared p read stop before after old new → (shared new).known
   left_known [] NoMore before after old new known (none, kept) = kept.known known
   left_known [] NotBegun before after old new known kept = kept.known known
   left_known [] (HasFault items fault) (reader ∷ before) (left ∷ after) old new known takes = shared_known own shared p.fits whole (λ text rest. p.fails items fault text) reader left old new known takes

@@ -5,7 +5,6 @@ use Rattle.cdb_show.specs.Feed.{given_from, HasBytes, HaveBytes, IsGiven}
 use Rattle.cdb_show.specs.declared.input_reader.InputReader.TheVariants.{Own, Shared}
 use Rattle.cdb_show.proofs.InputsGiven.{known_given}
 use Rattle.cdb_form.specs.Views.Feed as fed
-use Rattle.cdb_show.specs.Views.Noted.{AreReadTo}
 use Rattle.cdb_show.specs.Views.Window.{held_in, window_feed}
 use Rattle.cdb_show.specs.declared.inputs.SharedWindow.TheVariants.{InHand, Unread}
 
@@ -77,8 +76,8 @@ window_same : {I : Type 0} (remaining : I → Option (List ℕ)) (w : SharedWind
 window_same remaining (Unread reader) = record { known = λ k. k; known_back = λ k. k; may = λ whole rest m. m; may_back = λ whole rest m. m; failed = λ f. f; failed_back = λ f. f }
 window_same remaining (InHand w) = held_same (held_in w) (remaining w.reader)
 
-pub known_inputs : {J I Item F : Type 0} (own : J → Option (List ℕ)) (shared : I → Option (List ℕ)) (p : Parsing Item F) (read : List (List Item)) (stop : Stop Item F) (inputs left : Inputs J I) (each : List (Option (List ℕ))) (whole : List ℕ)
-    → HaveBytes own p.fits each inputs.readers.items → HasBytes p.fits (shared inputs.shared) whole → AreReadTo (λ reader. reader_feed (own reader)) (λ reader. reader_feed (shared reader)) p read stop inputs left → IsGiven 1 read stop (given_from p.parse 1 each whole)
-known_inputs own shared p read stop inputs left each whole have has are =
-    known_given own (left_of shared) p read stop inputs.readers.items left.readers.items (Unread inputs.shared) are.window each whole have has
-    (read_same (λ reader. reader_feed (own reader)) (shared_feed (λ reader. reader_feed (shared reader))) (λ w. reader_feed (left_of shared w)) (window_same shared) p read stop inputs.readers.items left.readers.items (Unread inputs.shared) are.window are.are)
+pub known_inputs : {J I Item F : Type 0} (own : J → Option (List ℕ)) (shared : I → Option (List ℕ)) (p : Parsing Item F) (read : List (List Item)) (stop : Stop Item F) (inputs left : Inputs J I) (window : SharedWindow I) (each : List (Option (List ℕ))) (whole : List ℕ)
+    → HaveBytes own p.fits each inputs.readers.items → HasBytes p.fits (shared inputs.shared) whole → AreRead (λ reader. reader_feed (own reader)) (shared_feed (λ reader. reader_feed (shared reader))) p read stop inputs.readers.items left.readers.items (Unread inputs.shared) window → IsGiven 1 read stop (given_from p.parse 1 each whole)
+known_inputs own shared p read stop inputs left window each whole have has are =
+    known_given own (left_of shared) p read stop inputs.readers.items left.readers.items (Unread inputs.shared) window each whole have has
+    (read_same (λ reader. reader_feed (own reader)) (shared_feed (λ reader. reader_feed (shared reader))) (λ w. reader_feed (left_of shared w)) (window_same shared) p read stop inputs.readers.items left.readers.items (Unread inputs.shared) window are)

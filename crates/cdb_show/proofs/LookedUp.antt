@@ -305,4 +305,4 @@ pub known_lookups_asked : {J I S : Type 0} (task : LookupTask S) (own : J → Op
     → task.store.image new bytes → task.store.failures new ≡ 0 → LooksOrShort task.word task.store (records_asked task.word task.greatest task.options each whole bytes) old new start end result
 known_lookups_asked task own shared inputs left each whole old new bytes start end result h have has is works =
     let l = h.leaves in
-    given_asked task _ _ inputs left each whole old new bytes start end result h (known_inputs own shared _ l.read l.stop inputs left each whole have has l.are) is works
+    given_asked task _ _ inputs left each whole old new bytes start end result h (known_inputs own shared (stopped_parsing (keys_form task.options.style) task.greatest (fault_in h.answer)) l.read l.stop inputs left l.are.window each whole have has l.are.are) is works

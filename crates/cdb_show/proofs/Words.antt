@@ -33,15 +33,14 @@ pub use Rattle.cdb_show.specs.Message.{duplicate_line, numbered}
 pub use Rattle.cdb_show.specs.Runs.Flushed.{Flushed}
 pub use Rattle.cdb_show.specs.Runs.WalkText.{end_of}
 pub use Rattle.cdb_show.specs.Runs.Given.{Given, given_from}
-pub use Rattle.cdb_show.specs.Runs.Incoming.{Incoming, came, from_input, from_inputs}
-pub use Rattle.cdb_show.specs.Runs.Inputs.{BeginsWithItems, FirstBegins, FirstHas, HasFaults, HasInputFault, HasItemFault, InputForm, InputsBeginWith, InputsLeft, IsInput, IsInputOf, OneBegins, OneInput, Puts, bytes_of, key_of, keys_form, keys_of, keys_of_each}
+pub use Rattle.cdb_show.specs.Runs.Inputs.{BeginsWithItems, HasFaults, HasInputFault, HasItemFault, InputForm, InputsBeginWith, IsInput, IsInputOf, Puts, key_of, keys_form, keys_of, keys_of_each}
 pub use Rattle.cdb_show.specs.Runs.Lookups.{looked_up, LookupState, LookupTask, lookup_state, FaultBehind, HasLooked, LookupsStopAt, StopsBehind, missing_answer}
 pub use Rattle.cdb_show.specs.Runs.Parsing.{fault_in, stop_of, stopped_parsing}
 pub use Rattle.cdb_show.specs.Runs.Query.{Queries, Query, QueryAnswers, QueryFails, WritesQueryPrefix, query_answer, query_text}
 pub use Rattle.cdb_show.specs.Runs.Stats.{keys_line, records_line, sizes_line, tables_line, values_line}
 unfoldable pub use Rattle.cdb_show.specs.Runs.Stats.{distance_lines}
 pub use Rattle.cdb_show.specs.Views.Fault.{read_fault}
-pub use Rattle.cdb_show.specs.Views.Noted.{noted_by, one_of, shared_feed}
+pub use Rattle.cdb_show.specs.Views.Noted.{noted_by, shared_feed}
 pub use Rattle.cdb_show.specs.Views.Output.{output_bytes, passed_bytes, writer_bytes}
 pub use Rattle.cdb_show.specs.Views.KeyReader.{form_of, reader_of}
 pub use Rattle.cdb_show.specs.Views.Window.{feed_of}

@@ -1,9 +1,9 @@
 // The inputs of a run, whose readers come back.
 ghost use Rattle.std.specs.Prelude.{◌≡◌, IfErr, IfOk, map};
 ghost use Rattle.cdb_form.specs.Views.Feed.{Consumes, Keeps};
-ghost use Rattle.cdb_show.specs.Runs.Inputs.{Own};
-ghost use Rattle.cdb_show.specs.Views.Noted.{held_of, one_of, reader_of, shared_feed};
+ghost use Rattle.cdb_show.specs.Views.Noted.{held_of, reader_of, shared_feed};
 ghost use Rattle.cdb_show.specs.Views.Window.{feed_of};
+ghost use Rattle.cdb_show.specs.declared.input_reader.InputReader.TheVariants.{Own};
 
 use crate::InputReader;
 use crate::window::{NoWindow, Window};
@@ -27,8 +27,7 @@ impl<J: Read, I: Read> Inputs<J, I> {
     where
         J: Drop,
         I: Drop,
-        ensures each { IfOk result (λ inputs. map (one_of J.remaining) inputs.readers.items
-            ≡ map Own (map J.remaining readers.items)) }
+        ensures each { IfOk result (λ inputs. inputs.readers.items ≡ map Own readers.items) }
         ensures shared { IfOk result (λ inputs. inputs.shared ≡ shared) }
     {
         let mut own = Vec::with_capacity(alloc, readers.len())?;

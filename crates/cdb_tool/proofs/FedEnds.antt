@@ -1,31 +1,22 @@
--- How a run ends whose readers are returned: for all inputs that agree with what was read, as its maker says.
-use Rattle.cdb_tool.proofs.Words.{AreAllInputs, ArePassed, AreRead, BeginsSo, Bool, Change, ComesFrom, Consumes, CutShort, Err, FailsFinishing, Fault, Feed, Flushed, Ghosts, HasFault, HasFaults, HasItemFault, Holds, InputForm, InputReader, Inputs, InputsLeft, IsFile, IsOk, KeyValue, List, MakeFault, Maker, NoMore, NotBegun, Ok, Option, Result, RunOptions, SharedWindow, Stop, StopsSo, TakesOne, Task, TextFault, WhereHonest, [], ap, arith, came, drop, drop-length, feeds_of, from_weaker, inl, input_form, inr, is_some, length, limit_of, make_fault, not_ok, nothing_taken, parsing, progress, reached, refl, run_state, shared_feed, subst, sym, terms_of, ℕ, ◌+◌, ◌∙◌, ◌∷◌, ◌≡◌, ◌⊎◌}
-use Rattle.std.proofs.Common.{IfErr, IfSome, None, Some}
+-- How a run ends whose readers are returned: what it read, and what its maker says of the items that came.
+use Rattle.cdb_tool.proofs.Words.{ArePassed, AreRead, BeginsSo, Bool, Change, ComesFrom, Consumes, CutShort, Err, FailsFinishing, Fault, Feed, Flushed, Ghosts, HasFault, Holds, InputForm, InputReader, Inputs, IsFile, IsOk, KeyValue, List, MakeFault, Maker, NoMore, NotBegun, Ok, Option, Result, RunOptions, SharedWindow, Stop, StopsSo, TakesOne, TextFault, WhereHonest, [], ap, arith, came, drop, drop-length, feeds_of, from_weaker, inl, input_form, inr, is_some, length, limit_of, make_fault, map, not_ok, nothing_taken, parsing, progress, reached, refl, run_state, shared_feed, subst, sym, terms_of, ℕ, ◌+◌, ◌∙◌, ◌∷◌, ◌≡◌, ◌⊎◌}
+use Rattle.std.specs.Global.{Vec}
 use Rattle.std.specs.Vec.{with_items}
-use Rattle.std.proofs.lemmas.List.{with_items_is}
+use Rattle.std.proofs.lemmas.List.{length-map, with_items_is}
 use Rattle.cdb_store.specs.declared.make_fault.MakeFault.TheVariants as make
 use Rattle.cdb_form.specs.declared.text.fault.TextFault.TheVariants as text
 use Rattle.cdb_form.specs.declared.width.Width.{Ghosts as Widths}
 use Rattle.cdb_show.specs.declared.input_reader.InputReader.TheVariants.{Own, Shared}
-use Rattle.cdb_command.specs.declared.style.Style.{Style}
-use Rattle.cdb_command.specs.declared.style.Style.TheVariants as style
 use Rattle.cdb_show.specs.declared.fault.Fault.TheVariants.{Output, Text}
-use Rattle.cdb_show.proofs.NextInputs.{first_begins}
-use Rattle.cdb_show.specs.Runs.Parsing.{IsFaultOf, IsOfRun}
-use Rattle.std.proofs.lemmas.Result.{IfErr-weaker}
+use Rattle.cdb_show.specs.Runs.Parsing.{IsFaultOf}
 use Rattle.cdb_show.specs.Feed.{SomeFailed}
 use Rattle.cdb_show.proofs.InputsInTurn.{some_through}
-use Rattle.cdb_show.specs.Runs.Inputs.{AreInputs, FirstHas}
-use Rattle.cdb_tool.specs.Runs.Make.{Goes, HoldsBase, InputsFail, IsHalt, IsOfMaking, MakeRuns, MeetsInput, OfBase, PutsInputs, PutsInputsStop, Stands, StoppedAt, form_of}
-use Rattle.cdb_tool.specs.Runs.InputsRead.{HasRead, RunsRead, StopsIn, WereRead, stop_by}
+use Rattle.cdb_tool.specs.Runs.Make.{HoldsBase, IsOfMaking, MakeRuns, OfBase, PutsInputs, PutsInputsStop, StopsAt, came_of, none_read, reading}
+use Rattle.cdb_tool.specs.Runs.InputsRead.{IsStopOf, RunsRead, WereRead, stop_by}
 use Rattle.cdb_show.specs.declared.inputs.SharedWindow.TheVariants.{Unread}
 use Rattle.cdb_tool.proofs.FedRuns.{reached_whole, read_as}
-use Rattle.cdb_tool.proofs.InputRuns.{form_is, in_run}
+use Rattle.cdb_tool.proofs.InputRuns.{in_run}
 use Rattle.cdb_tool.proofs.RunEnds.{runs_flushed, runs_stopped, runs_unfinished, runs_whole}
-
-some_weaker : {A : Type 0} {P Q : A → Type 0} (o : Option A) → ((a : A) → P a → Q a) → IfSome o P → IfSome o Q
-some_weaker None f p = tt
-some_weaker (Some a) f p = f a p
 
 -- ---- the inputs
 
@@ -67,8 +58,20 @@ none_passed own shared form g answer read before now old new are long =
 pub were_none : {J I : Type 0} (own : J → Feed) (shared : I → Feed) (form : InputForm) (g : ℕ) (answer : Result Unit Fault) (inputs : Inputs J I) → WereRead (feeds_of own shared) (parsing form g answer) [] NotBegun inputs inputs
 were_none own shared form g answer inputs = record { window = Unread inputs.shared; are = nothing_taken (shared inputs.shared); passed = refl; lost = []; let_go = nothing_taken (shared inputs.shared) }
 
-pub all_inputs : (form : InputForm) (g : ℕ) (answer : Result Unit Fault) (read : List (List Change)) (inputs : InputsLeft) → HasRead form g answer read NoMore inputs → AreAllInputs form g read inputs
-all_inputs form g answer read inputs h = record { rest = h.rest; are = h.are; none = h.stops }
+-- inputs that each have one of these readers
+abbrev pub each_own : {J I : Type 0} → Vec J → (shared : I) → Inputs J I
+each_own readers shared = record {
+  readers = record {
+    ptr = readers.ptr;
+    len = readers.len;
+    cap = readers.cap;
+    alloc = readers.alloc;
+    items = map Own readers.items;
+    ok = (readers.ok.0 ∙ sym (length-map readers.items Own), readers.ok.1);
+    small = readers.small;
+  };
+  shared = shared;
+}
 
 -- ---- a run with another answer, which is no fault of an input
 
@@ -105,83 +108,12 @@ module _ (form : InputForm) (g : ℕ) (was is : Result Unit Fault) (none : IsNon
     let_go = were.let_go;
   }
 
-  stops_in_as : (stop : Stop Change TextFault) (rest : InputsLeft) → StopsIn form g was stop rest → StopsIn form g is stop rest
-  stops_in_as (CutShort items) rest h = (h.0, h.1, some_weaker h.0 (λ input begins. begins_as items input begins) h.2)
-  stops_in_as stop rest h = h
-
-  pub has_as : (read : List (List Change)) (stop : Stop Change TextFault) (inputs : InputsLeft) → HasRead form g was read stop inputs → HasRead form g is read stop inputs
-  has_as read stop inputs h = record { rest = h.rest; are = h.are; stops = stops_in_as stop h.rest h.stops }
-
--- ---- an input stopped it
-
-has_native : (s : Style) (amends : Bool) → HasFaults (input_form s amends) → s ≡ style.Native
-has_native style.Native amends h = refl
-has_native style.Map amends h = absurd h
-
-module _ {S L : Type 0} {s : Ghosts S} {l : Widths L} (g : ℕ) (t : Task) (read : List (List Change)) (last : List Change) (inputs : InputsLeft) (start now : Option (List ℕ)) (m : Maker S L s l) (Failed : Type 0) where
-  -- after these items the next input has a fault of its text
-  meets : (n : ℕ) (f : TextFault) (rest : InputsLeft) (input : Option (List ℕ)) → AreInputs (form_of t) g read inputs rest → FirstHas rest input → IfSome input (HasItemFault (form_of t) g last f) → IsFaultOf (form_of t) (length read + 1) Failed (Text n f) → Goes l.WORD t (came read last) start now
-      → MeetsInput l.WORD g t inputs start now n f
-  meets n f rest input are first has fault goes = record {
-    read = read;
-    last = last;
-    input = input;
-    rest = rest;
-    are = are;
-    first = first;
-    numbered = fault.number n f refl;
-    memory = fault.memory n f refl;
-    native = λ k. has_native t.options.make.style (is_some t.base) (fault.own n f refl k);
-    has = has;
-    goes = goes;
-  }
-
-  stops_each : (fault : Fault) → HasRead (form_of t) g (Err fault) read (stop_by fault last) inputs → IsFaultOf (form_of t) (length read + 1) Failed fault → StoppedAt t (came read last) start now m fault
-      → (b : List ℕ) → s.image m.store b → InputsFail l.WORD g t inputs start now fault
-  stops_each (Text n (text.Syntax at)) h of_text stopped b is = meets n (text.Syntax at) h.rest h.stops.0 h.are h.stops.1 (some_weaker h.stops.0 (λ input fails. fails.has) h.stops.2) of_text (stopped.stops.each b is)
-  stops_each (Text n (text.Ended at)) h of_text stopped b is = meets n (text.Ended at) h.rest h.stops.0 h.are h.stops.1 (some_weaker h.stops.0 (λ input fails. fails.has) h.stops.2) of_text (stopped.stops.each b is)
-  stops_each (Text n (text.Large at)) h of_text stopped b is = meets n (text.Large at) h.rest h.stops.0 h.are h.stops.1 (some_weaker h.stops.0 (λ input fails. fails.has) h.stops.2) of_text (stopped.stops.each b is)
-  stops_each (Text n f) h of_text stopped b is = meets n f h.rest h.stops.0 h.are h.stops.1 (some_weaker h.stops.0 (λ input begins. begins.has n f refl) h.stops.2) of_text (stopped.stops.each b is)
-  stops_each fault h of_text stopped b is = record {
-    read = read;
-    last = last;
-    rest = h.rest;
-    are = h.are;
-    begins = first_begins (form_of t) g last h.rest h.stops.0 h.stops.1 (some_weaker h.stops.0 (λ input begins. begins.begins) h.stops.2);
-    stops = stopped.stops.each b is;
-  }
-
-  pub inputs_stop : (form : InputForm) (fault : Fault) → form_of t ≡ form → HasRead form g (Err fault) read (stop_by fault last) inputs → IsFaultOf form (length read + 1) Failed fault → StoppedAt t (came read last) start now m fault
-      → WhereHonest (s.image m.store) (InputsFail l.WORD g t inputs start now fault)
-  inputs_stop form fault same h of_text stopped = record {
-    each = λ b is.
-        stops_each fault (subst (λ v. HasRead v g (Err fault) read (stop_by fault last) inputs) (sym same) h)
-        (subst (λ v. IsFaultOf v (length read + 1) Failed fault) (sym same) of_text) stopped b is;
-  }
-
-  pub inputs_stand : (form : InputForm) (fault : Fault) → HasRead form g (Err fault) read (stop_by fault last) inputs → StoppedAt t (came read last) start now m fault → IsHalt fault → Stands form g t inputs start now m
-  inputs_stand form (Text n f) h stopped halt = absurd halt
-  inputs_stand form fault h stopped halt = record {
-    read = read;
-    last = last;
-    rest = h.rest;
-    are = h.are;
-    begins = first_begins form g last h.rest h.stops.0 h.stops.1 (some_weaker h.stops.0 (λ input begins. begins.begins) h.stops.2);
-    stands = stopped.stands halt;
-  }
-
--- ---- the run
+-- ---- why a run read no more
 
 -- a fault of the maker is none of a text or of a name
 pub of_making : (f : MakeFault) → IsOfMaking (make_fault f)
 of_making make.NoMemory = tt
 of_making made = tt
-
-err_eq : {f g : Fault} → ◌≡◌ {A = Result Unit Fault} (Err f) (Err g) → f ≡ g
-err_eq e = cc
-
-none_ok : IsNone (Ok tt)
-none_ok n f e = cc
 
 none_output : IsNone (Err Output)
 none_output n f e = cc
@@ -190,83 +122,98 @@ none_made : (f : MakeFault) → IsNone (Err (make_fault f))
 none_made make.NoMemory n f e = cc
 none_made made n f e = cc
 
--- it read nothing
-pub read_none : {B J I : Type 0} (t : Ghosts B) (was base : Option B) (own : J → Feed) (shared : I → Feed) (w g : ℕ) (o : RunOptions) (inputs : Inputs J I) (images : List ℕ → Type 0) (old new : Option (List ℕ)) (result : Result Unit Fault)
-    → IfErr result IsOfMaking → ((given : InputsLeft) → WhereHonest images (OfBase t base (λ b. MakeRuns (terms_of w g o) b given images old new result))) → RunsRead (terms_of w g o) (feeds_of own shared) t (run_state was inputs old) (run_state base inputs new) images result
-read_none t was base own shared w g o inputs images old new result of runs = record {
-  read = [];
-  stop = NotBegun;
-  were = were_none own shared (input_form o.make.style (is_some was)) g result inputs;
-  runs = λ given h. runs given;
-  failed = λ n e. absurd (subst (λ r. IfErr r IsOfMaking) e of);
-  of_run = IfErr-weaker result IsOfMaking IsOfRun in_run of;
+-- a fault that is none of an input
+no_input : (form : InputForm) (n : ℕ) (Failed : Type 0) (f : Fault) → IsOfMaking f → IsFaultOf form n Failed f
+no_input form n Failed f is = record {
+  number = λ i t e. absurd (subst IsOfMaking e is);
+  own = λ i t e of_text. absurd (subst IsOfMaking e is);
+  memory = λ i t e same. subst IsOfMaking e is;
+  failed = λ i e. absurd (subst IsOfMaking e is);
+  of_run = in_run f is;
 }
 
-module _ {S L B J I : Type 0} {s : Ghosts S} {l : Widths L} (t : Ghosts B) (was base : Option B) (own : J → Feed) (shared : I → Feed) (g : ℕ) (o : RunOptions) (amends : Bool) (before after : Inputs J I) (start now : Option (List ℕ)) (begun m : Maker S L s l) (of_was : amends ≡ is_some was) (of_base : is_some base ≡ amends)
-    (wide : (l.WORD ≡ 4) ⊎ (l.WORD ≡ 8)) (holds : HoldsBase l.WORD t base begun) (limit : limit_of begun ≡ o.make.limit) (comes : ComesFrom (s.image begun.store) (s.image m.store)) (read : List (List Change)) where
-  of_form : (answer : Result Unit Fault) (stop : Stop Change TextFault) → WereRead (feeds_of own shared) (parsing (input_form o.make.style amends) g answer) read stop before after → WereRead (feeds_of own shared) (parsing (input_form o.make.style (is_some was)) g answer) read stop before after
-  of_form answer stop were = subst (λ v. WereRead (feeds_of own shared) (parsing (input_form o.make.style v) g answer) read stop before after) of_was were
+unread_stop : (f : Fault) → IsOfMaking f → IsStopOf (Err f) NotBegun
+unread_stop (Text n f) is = absurd is
+unread_stop f is = tt
 
-  given_form : (answer : Result Unit Fault) (stop : Stop Change TextFault) (given : InputsLeft) → HasRead (input_form o.make.style (is_some was)) g answer read stop given → HasRead (input_form o.make.style amends) g answer read stop given
-  given_form answer stop given h = subst (λ v. HasRead (input_form o.make.style v) g answer read stop given) (sym of_was) h
+whole_stop : (f : Fault) → IsOfMaking f → IsStopOf (Err f) NoMore
+whole_stop (Text n f) is = absurd is
+whole_stop f is = tt
 
-  all_given : (answer : Result Unit Fault) (given : InputsLeft) → HasRead (input_form o.make.style (is_some was)) g answer read NoMore given → AreAllInputs (input_form o.make.style (is_some base)) g read given
-  all_given answer given h = subst (λ v. AreAllInputs (input_form o.make.style v) g read given) (sym (of_base ∙ of_was)) (all_inputs (input_form o.make.style (is_some was)) g answer read given h)
+in_stop : (f : Fault) (last : List Change) → IsStopOf (Err f) (stop_by f last)
+in_stop (Text n f) last = (last, refl)
+in_stop f last = tt
 
-  pub read_stopped : (last : List Change) (f : Fault) → WereRead (feeds_of own shared) (parsing (input_form o.make.style amends) g (Err f)) read (stop_by f last) before after → IsFaultOf (input_form o.make.style amends) (length read + 1) (SomeFailed own shared after.readers.items after.shared) f
-      → PutsInputsStop o read last (progress start begun) (progress now m) f → RunsRead (terms_of l.WORD g o) (feeds_of own shared) t (run_state was before start) (run_state base after now) (s.image m.store) (Err f)
-  read_stopped last f were of_text stops = record {
-    read = read;
-    stop = stop_by f last;
-    were = of_form (Err f) (stop_by f last) were;
-    runs = λ given h.
-        runs_stopped {s = s} {l = l} t base g o amends given start now begun (s.image m.store) f wide holds limit of_base comes
-        (λ k same based begins. inputs_stop {s = s} {l = l} g k read last given start now m (SomeFailed own shared after.readers.items after.shared) (input_form o.make.style amends) f (form_is k o amends same based) (given_form (Err f) (stop_by f last) given h) of_text (stops k start same begins));
-    failed = λ n e. of_text.failed n (err_eq e);
-    of_run = of_text.of_run;
+-- the items that came of an input in which it stopped
+came_by : (items : List (List Change)) (f : Fault) (last : List Change) → came_of items (stop_by f last) ≡ came items last
+came_by items (Text n (text.Syntax at)) last = refl
+came_by items (Text n (text.Ended at)) last = refl
+came_by items (Text n (text.Large at)) last = refl
+came_by items (Text n f) last = refl
+came_by items f last = refl
+
+-- ---- the run
+
+-- it read nothing
+pub read_none : {B J I : Type 0} (t : Ghosts B) (was base : Option B) (own : J → Feed) (shared : I → Feed) (w g : ℕ) (o : RunOptions) (inputs : Inputs J I) (images : List ℕ → Type 0) (old new : Option (List ℕ)) (f : Fault)
+    → IsOfMaking f → WhereHonest images (OfBase t base (λ b. MakeRuns (terms_of w g o) b none_read images old new (Err f))) → RunsRead (terms_of w g o) (feeds_of own shared) t (run_state was inputs old) (run_state base inputs new) images (Err f)
+read_none t was base own shared w g o inputs images old new f of runs = record {
+  read = none_read;
+  were = were_none own shared (input_form o.make.style (is_some was)) g (Err f) inputs;
+  is = record { stopped = unread_stop f of; of_input = no_input _ _ _ f of };
+  runs = runs;
+}
+
+module _ {S L B J I : Type 0} {s : Ghosts S} {l : Widths L} (t : Ghosts B) (was base : Option B) (own : J → Feed) (shared : I → Feed) (g : ℕ) (o : RunOptions) (amends : Bool) (before after : Inputs J I) (start now : Option (List ℕ)) (begun m : Maker S L s l) (of_was : amends ≡ is_some was)
+    (wide : (l.WORD ≡ 4) ⊎ (l.WORD ≡ 8)) (holds : HoldsBase l.WORD t base begun) (limit : limit_of begun ≡ o.make.limit) (comes : ComesFrom (s.image begun.store) (s.image m.store)) (items : List (List Change)) where
+  abbrev pub WereSo : Result Unit Fault → Stop Change TextFault → Bool → Type 0
+  WereSo answer stop v = WereRead (feeds_of own shared) (parsing (input_form o.make.style v) g answer) items stop before after
+
+  pub read_stopped : (last : List Change) (f : Fault) → WereSo (Err f) (stop_by f last) amends → IsFaultOf (input_form o.make.style amends) (length items + 1) (SomeFailed own shared after.readers.items after.shared) f
+      → PutsInputsStop o items last (progress start begun) (progress now m) f → RunsRead (terms_of l.WORD g o) (feeds_of own shared) t (run_state was before start) (run_state base after now) (s.image m.store) (Err f)
+  read_stopped last f were of_input stops = record {
+    read = reading items (stop_by f last);
+    were = subst (WereSo (Err f) (stop_by f last)) of_was were;
+    is = record { stopped = in_stop f last; of_input = subst (λ v. IsFaultOf (input_form o.make.style v) (length items + 1) (SomeFailed own shared after.readers.items after.shared) f) of_was of_input };
+    runs = runs_stopped {s = s} {l = l} t base g o start now begun wide holds limit (reading items (stop_by f last)) (s.image m.store) f comes
+        (λ k same begins. subst (λ cs. WhereHonest (s.image m.store) (StopsAt l.WORD k cs start now f)) (sym (came_by items f last)) (stops k start same begins).stops);
   }
 
-  pub read_whole : (images : List ℕ → Type 0) → WereRead (feeds_of own shared) (parsing (input_form o.make.style amends) g (Ok tt)) read NoMore before after → PutsInputs o read (progress start begun) (progress now m) → ComesFrom (s.image m.store) images → ((rs : List KeyValue) → Holds m rs → IsFile l.WORD rs images)
+  pub read_whole : (images : List ℕ → Type 0) → WereSo (Ok tt) NoMore amends → PutsInputs o items (progress start begun) (progress now m) → ComesFrom (s.image m.store) images → ((rs : List KeyValue) → Holds m rs → IsFile l.WORD rs images)
       → RunsRead (terms_of l.WORD g o) (feeds_of own shared) t (run_state was before start) (run_state base after now) images (Ok tt)
   read_whole images were puts finished file = record {
-    read = read;
-    stop = NoMore;
-    were = of_form (Ok tt) NoMore were;
-    runs = λ given h. runs_whole {s = s} {l = l} t base g o given read start now begun m images wide holds limit (all_given (Ok tt) given h) (λ k same begins. puts k start same begins) comes finished file;
-    failed = λ n e. absurd (none_ok n text.Input e);
-    of_run = tt;
+    read = reading items NoMore;
+    were = subst (WereSo (Ok tt) NoMore) of_was were;
+    is = record { stopped = refl; of_input = tt };
+    runs = runs_whole {s = s} {l = l} t base g o start now begun wide holds limit items m images (λ k same begins. puts k start same begins) comes finished file;
   }
 
-  pub read_unfinished : (new : Maker S L s l) (f : MakeFault) → WereRead (feeds_of own shared) (parsing (input_form o.make.style amends) g (Ok tt)) read NoMore before after → PutsInputs o read (progress start begun) (progress now m) → ComesFrom (s.image m.store) (s.image new.store) → FailsFinishing m new f
+  pub read_unfinished : (new : Maker S L s l) (f : MakeFault) → WereSo (Ok tt) NoMore amends → PutsInputs o items (progress start begun) (progress now m) → ComesFrom (s.image m.store) (s.image new.store) → FailsFinishing m new f
       → RunsRead (terms_of l.WORD g o) (feeds_of own shared) t (run_state was before start) (run_state base after now) (s.image new.store) (Err (make_fault f))
   read_unfinished new f were puts finished fails = record {
-    read = read;
-    stop = NoMore;
-    were = of_form (Err (make_fault f)) NoMore (were_as (input_form o.make.style amends) g (Ok tt) (Err (make_fault f)) (none_made f) own shared read NoMore before after were);
-    runs = λ given h. runs_unfinished {s = s} {l = l} t base g o given read start now begun m new f wide holds limit (all_given (Err (make_fault f)) given h) (λ k same begins. puts k start same begins) comes finished fails;
-    failed = λ n e. absurd (none_made f n text.Input e);
-    of_run = in_run (make_fault f) (of_making f);
+    read = reading items NoMore;
+    were = subst (WereSo (Err (make_fault f)) NoMore) of_was (were_as (input_form o.make.style amends) g (Ok tt) (Err (make_fault f)) (none_made f) own shared items NoMore before after were);
+    is = record { stopped = whole_stop (make_fault f) (of_making f); of_input = no_input _ _ _ (make_fault f) (of_making f) };
+    runs = runs_unfinished {s = s} {l = l} t base g o start now begun wide holds limit items m (s.image new.store) (λ k same begins. puts k start same begins) comes finished new f fails;
   }
 
 -- ---- the flush
 
-flush_err : {B J I : Type 0} (t : Ghosts B) (was base : Option B) (own : J → Feed) (shared : I → Feed) (w g : ℕ) (o : RunOptions) (before after : Inputs J I) (images : List ℕ → Type 0) (old mid new : Option (List ℕ)) (answer : Result Unit Fault) → IsOk answer → Flushed mid new answer (Err Output)
-    → RunsRead (terms_of w g o) (feeds_of own shared) t (run_state was before old) (run_state base after mid) images answer → RunsRead (terms_of w g o) (feeds_of own shared) t (run_state was before old) (run_state base after new) images (Err Output)
-flush_err t was base own shared w g o before after images old mid new (Ok u) ok f h = record {
-  read = h.read;
-  stop = h.stop;
-  were = were_as (input_form o.make.style (is_some was)) g (Ok u) (Err Output) none_output own shared h.read h.stop before after h.were;
-  runs = λ given has. runs_flushed t base w g o given images old mid new (Ok u) (Err Output) (h.runs given (has_as (input_form o.make.style (is_some was)) g (Err Output) (Ok u) none_ok h.read h.stop given has)) f;
-  failed = λ n e. absurd (none_output n text.Input e);
-  of_run = tt;
-}
-flush_err t was base own shared w g o before after images old mid new (Err e) ok f h = absurd (not_ok ok)
+module _ {B J I : Type 0} (t : Ghosts B) (was base : Option B) (own : J → Feed) (shared : I → Feed) (w g : ℕ) (o : RunOptions) (before after : Inputs J I) (images : List ℕ → Type 0) (old mid new : Option (List ℕ)) where
+  abbrev pub ReadTo : Option (List ℕ) → Result Unit Fault → Type 0
+  ReadTo lines answer = RunsRead (terms_of w g o) (feeds_of own shared) t (run_state was before old) (run_state base after lines) images answer
 
-pub read_flushed : {B J I : Type 0} (t : Ghosts B) (was base : Option B) (own : J → Feed) (shared : I → Feed) (w g : ℕ) (o : RunOptions) (before after : Inputs J I) (images : List ℕ → Type 0) (old mid new : Option (List ℕ)) (answer result : Result Unit Fault) → RunsRead (terms_of w g o) (feeds_of own shared) t (run_state was before old) (run_state base after mid) images answer
-    → Flushed mid new answer result → RunsRead (terms_of w g o) (feeds_of own shared) t (run_state was before old) (run_state base after new) images result
-read_flushed t was base own shared w g o before after images old mid new answer result h f = elim f.answered as (λ _. RunsRead (terms_of w g o) (feeds_of own shared) t (run_state was before old) (run_state base after new) images result) [
-  | inl e ↦
-      subst (RunsRead (terms_of w g o) (feeds_of own shared) t (run_state was before old) (run_state base after new) images) (sym e)
-      (record { read = h.read; stop = h.stop; were = h.were; runs = λ given has. runs_flushed t base w g o given images old mid new answer answer (h.runs given has) (subst (Flushed mid new answer) e f); failed = h.failed; of_run = h.of_run })
-  | inr e ↦ subst (RunsRead (terms_of w g o) (feeds_of own shared) t (run_state was before old) (run_state base after new) images) (sym e.1) (flush_err t was base own shared w g o before after images old mid new answer e.0 (subst (Flushed mid new answer) e.1 f) h)
-]
+  flush_err : (answer : Result Unit Fault) → IsOk answer → Flushed mid new answer (Err Output) → ReadTo mid answer → ReadTo new (Err Output)
+  flush_err (Ok u) ok f h = record {
+    read = h.read;
+    were = were_as (input_form o.make.style (is_some was)) g (Ok u) (Err Output) none_output own shared h.read.items h.read.stop before after h.were;
+    is = record { stopped = subst (IsStopOf (Err Output)) (sym h.is.stopped) tt; of_input = no_input _ _ _ Output tt };
+    runs = runs_flushed t base w g o h.read images old mid new (Ok u) (Err Output) h.runs f;
+  }
+  flush_err (Err e) ok f h = absurd (not_ok ok)
+
+  pub read_flushed : (answer result : Result Unit Fault) → ReadTo mid answer → Flushed mid new answer result → ReadTo new result
+  read_flushed answer result h f = elim f.answered as (λ _. ReadTo new result) [
+    | inl e ↦ subst (ReadTo new) (sym e) (record { read = h.read; were = h.were; is = h.is; runs = runs_flushed t base w g o h.read images old mid new answer answer h.runs (subst (Flushed mid new answer) e f) })
+    | inr e ↦ subst (ReadTo new) (sym e.1) (flush_err answer e.0 (subst (Flushed mid new answer) e.1 f) h)
+  ]

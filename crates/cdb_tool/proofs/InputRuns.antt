@@ -1,5 +1,5 @@
 -- A run over the items of an input, whatever bytes agree with it.
-use Rattle.cdb_tool.proofs.Words.{BeginsWithItems, Bool, Change, ComesFrom, Consumes, EndsSo, Err, Fault, Feed, FromTo, Ghosts, Incoming, InputForm, List, Maker, None, Option, Putting, RunOptions, Some, Task, TellsPart, TextFault, WhereHonest, [], ap, came, course_of, false, from_inputs, inl, input_form, inr, is_some, length, subst, sym, true, with_newlines, ℕ, ◌++◌, ◌+◌, ◌∙◌, ◌∷◌, ◌≡◌, ◌≢◌, ◌⊎◌}
+use Rattle.cdb_tool.proofs.Words.{BeginsWithItems, Change, ComesFrom, Consumes, EndsSo, Err, Fault, Feed, FromTo, Ghosts, Incoming, InputForm, List, Maker, None, Option, Putting, Some, Task, TellsPart, TextFault, WhereHonest, [], ap, came, course_of, false, from_inputs, inl, inr, length, subst, sym, true, with_newlines, ℕ, ◌++◌, ◌+◌, ◌∙◌, ◌∷◌, ◌≡◌, ◌≢◌, ◌⊎◌}
 use Rattle.cdb_store.specs.declared.make_fault.MakeFault.TheVariants as make
 use Rattle.cdb_form.specs.declared.text.fault.TextFault.TheVariants as text
 use Rattle.cdb_form.specs.declared.width.Width.{Ghosts as Widths}
@@ -14,14 +14,9 @@ use Rattle.cdb_show.proofs.ItemInputs.{GaveItems, items_begin, items_fault, item
 use Rattle.cdb_show.proofs.LookupRuns.{text_of_run}
 use Rattle.cdb_show.proofs.SpelledInputs.{from_lost}
 use Rattle.cdb_tool.specs.Runs.Make.{InCourse, IsOfMaking, ItemDone, PutStops, StoppedAt}
-use Rattle.cdb_tool.specs.Runs.Make.{form_of as task_form}
 use Rattle.cdb_tool.proofs.Courses.{came_more, came_none, course_stands}
 use Rattle.cdb_tool.proofs.MadeOf.{course_more, told_grow}
 use Rattle.cdb_tool.proofs.ToldLines.{part_more}
-
--- the form of the inputs of a run
-pub form_is : (t : Task) (o : RunOptions) (amends : Bool) → t.options ≡ o → is_some t.base ≡ amends → task_form t ≡ input_form o.make.style amends
-form_is t o amends same based = ap (λ v. input_form v.make.style (is_some t.base)) same ∙ ap (input_form o.make.style) based
 
 -- nothing was put of an input that begins
 pub none_put : {S L : Type 0} {s : Ghosts S} {l : Widths L} (o : Task) (read : List (List Change)) (start now : Option (List ℕ)) (m : Maker S L s l) → InCourse o (from_inputs 1 read) start now m → InCourse o (came read []) start now m

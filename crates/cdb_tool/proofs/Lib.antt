@@ -4,7 +4,6 @@ pub mod Courses
 pub mod InputRuns
 pub mod FedTurns
 pub mod FedRuns
-pub mod AgreeingInputs
 pub mod FedEnds
 pub mod AgreeingRuns
 pub mod RunEnds

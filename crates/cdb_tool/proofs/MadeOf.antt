@@ -1,28 +1,24 @@
 -- A run that makes a database comes to what the function of its bytes says, or to a refusal.
-use Rattle.cdb_form.proofs.MapTexts.WholeMap.{read_rest}
-use Rattle.std.proofs.Common.{◌≡◌, ◌+◌, ◌<◌, ◌≤◌, true, false, Bool, ℕ, inl, inr, List, [], ◌∷◌, ◌++◌, length, refl, sym, ap, subst, ◌∙◌, arith, append_assoc, append-nil, Option, Some, None, Result, Ok, Err, is_some, IfSome, nat_lt, if◌then◌else◌}
+use Rattle.std.proofs.Common.{◌≡◌, ◌+◌, ◌<◌, ◌≤◌, ℕ, inl, inr, List, [], ◌∷◌, ◌++◌, length, refl, sym, ap, subst, ◌∙◌, arith, append_assoc, append-nil, Option, Some, None, Result, Ok, Err, is_some, nat_lt, if◌then◌else◌}
 use Rattle.std.specs.Prelude.{option_map, fold}
 use Rattle.std.proofs.lemmas.Bool.{cond-true, cond-false, lt-ltb, le-ltb}
-use Rattle.cdb_tool.proofs.Words.{Appends, Damage, Fault, Incoming, IsOfText, IsReadFault, KeyValue, Known, NotAdded, ReadFault, RunOptions, TellsEach, TellsPart, TextFault, Told, Walked, came, file_size, fold-append, from_inputs, put_result, walk_of, with_newlines}
-use Rattle.cdb_command.specs.declared.style.Style.TheVariants.{Native, Map}
-use Rattle.cdb_form.specs.Text.Parse.{Change, Putting, Removing, SpellsChange, SpellsKey}
-use Rattle.cdb_form.specs.Text.Map.{map_lines}
-use Rattle.cdb_form.specs.Text.Native.{Spells}
-use Rattle.cdb_form.specs.Text.Form.{Spelled}
-use Rattle.cdb_form.specs.Views.MapReader.{ReadAmid}
+use Rattle.cdb_tool.proofs.Words.{Appends, CutShort, Damage, Fault, HasFault, Incoming, InputForm, NoMore, NotAdded, NotBegun, ReadFault, RunOptions, Stop, TellsEach, TellsPart, TextFault, Told, Walked, came, file_size, fold-append, from_input, from_inputs, input_form, put_result, walk_of}
+use Rattle.cdb_form.specs.Text.Parse.{Change, Putting, Removing}
 use Rattle.cdb_form.specs.declared.text.fault.TextFault.TheVariants as text
 use Rattle.cdb_store.specs.declared.make_fault.MakeFault.TheVariants as make
 use Rattle.cdb_read.specs.Views.Reads.{damage_fault}
 use Rattle.cdb_read.specs.declared.fault.ReadFault.TheVariants as read
-use Rattle.cdb_tool.specs.Runs.Make.{Course, Task, task_of, with_change, with_next, is_going, at_start, course_of, told, mode_of, StopsSo, records_of, IsSomeBase, Makes, MakesDatabase, MeetsInput, MakeStops, BaseStops, InputsStop, RunFails, MakeRuns, terms_of}
-use Rattle.cdb_tool.specs.Runs.MakesSo.{MakesSo, IsMakeRefusal, ComesOf}
+use Rattle.cdb_tool.specs.Runs.Make.{Course, Goes, Reading, StopsAt, Task, came_of, task_of, with_change, with_next, is_going, at_start, course_of, told, mode_of, StopsSo, records_of, IsSomeBase, Makes, BaseStops, MakeRuns, terms_of}
+use Rattle.cdb_tool.specs.Runs.MakesSo.{IsMakeRefusal, ComesOf}
 use Rattle.cdb_tool.specs.Runs.Made.{Made, ended_by, made_from, walk_fault, base_fault, unless_stopped, made_of}
+use Rattle.cdb_tool.specs.Runs.InputsRead.{IsReading}
 use Rattle.cdb_tool.proofs.ToldLines.{part_more, part_none, part_whole}
-use Rattle.cdb_show.proofs.GivenInputs.{after, all_given, begins_given, first_fails, left_known}
-use Rattle.cdb_show.specs.Runs.Inputs.{InputForm, HasFaults, Puts, Changes, Lists, input_form, InputsLeft, BeginsWithItems, HasItemFault, OneBegins, FirstBegins, FirstHas}
-use Rattle.cdb_tool.specs.Runs.Make as make_run
+use Rattle.cdb_show.proofs.GivenInputs.{said, same_given}
+use Rattle.cdb_show.specs.Feed as fed
+use Rattle.cdb_show.specs.Feed.{IsGiven}
 use Rattle.cdb_show.specs.Runs.Given.{Given, given_from}
-use Rattle.cdb_show.specs.declared.fault.Fault.TheVariants.{Text, Make, Duplicate, Missing, Read, Walk, Output, Long, Open, Rename, NoMemory, Old, New, NoOldTables, NoNewTables, NoBaseTables}
+use Rattle.cdb_show.specs.Runs.Parsing.{IsFaultOf, input_parsing}
+use Rattle.cdb_show.specs.declared.fault.Fault.TheVariants.{Text, Make, Duplicate, Read, Output, NoMemory}
 
 -- ---- the course over more items
 
@@ -96,28 +92,51 @@ base_stops w limit o images old new walk made (Read read.Output) h lines = damag
 base_stops w limit o images old new walk made NoMemory h lines = refused w o _ images old new _ tt (part_none o.names _ old new lines)
 base_stops w limit o images old new walk made f h lines = absurd h
 
-some_base_stops : (w g : ℕ) (o : RunOptions) (base : Option (List ℕ)) (images : List ℕ → Type 0) (old new : Option (List ℕ)) (made : Made) (f : Fault) → BaseStops w o.make.limit base old new f → ComesOf w o (unless_stopped (base_fault w o.make.limit base) made) images old new (Err f)
-some_base_stops w g o None images old new made f h = absurd h.fails
-some_base_stops w g o (Some b) images old new made f h = base_stops w o.make.limit o images old new (walk_of w b) made f h.fails h.lines
+some_base_stops : (w g : ℕ) (o : RunOptions) (base : Option (List ℕ)) (r : Reading) (images : List ℕ → Type 0) (old new : Option (List ℕ)) (made : Made) (f : Fault) → BaseStops w o.make.limit base r old new f → ComesOf w o (unless_stopped (base_fault w o.make.limit base) made) images old new (Err f)
+some_base_stops w g o None r images old new made f h = absurd h.fails
+some_base_stops w g o (Some b) r images old new made f h = base_stops w o.make.limit o images old new (walk_of w b) made f h.fails h.lines
+
+-- ---- the items of the inputs, as they come
+
+input_then : (i n : ℕ) (xs ys : List Change) → (more : List Incoming) × (from_input i n (xs ++ ys) ≡ from_input i n xs ++ more)
+input_then i n [] ys = (from_input i n ys, refl)
+input_then i n (x ∷ xs) ys = let h = input_then i (n + 1) xs ys in (h.0, ap (λ t. record { input = i; number = n; it = x } ∷ t) h.1)
+
+inputs_then : (i : ℕ) (done others : List (List Change)) → from_inputs i (done ++ others) ≡ from_inputs i done ++ from_inputs (i + length done) others
+inputs_then i [] others = ap (λ (n : ℕ). from_inputs n others) (omega arith)
+inputs_then i (items ∷ done) others =
+    ap (λ t. from_input i 1 items ++ t) (inputs_then (i + 1) done others) ∙ sym (append_assoc (from_input i 1 items) (from_inputs (i + 1) done) _)
+    ∙ ap (λ (n : ℕ). (from_input i 1 items ++ from_inputs (i + 1) done) ++ from_inputs n others) (omega arith)
+
+-- those that came are the first of all
+part_came : (done others : List (List Change)) (last more : List Change) → (rest : List Incoming) × (from_inputs 1 (done ++ (last ++ more) ∷ others) ≡ came done last ++ rest)
+part_came done others last more =
+    let n : ℕ = 1 + length done in
+    let h = input_then n 1 last more in
+    let after = from_inputs (n + 1) others in
+    let first = from_inputs 1 done in (
+      h.0 ++ after,
+      inputs_then 1 done ((last ++ more) ∷ others) ∙ ap (λ t. first ++ (t ++ after)) h.1 ∙ ap (λ t. first ++ t) (append_assoc (from_input n 1 last) h.0 after)
+          ∙ sym (append_assoc first (from_input n 1 last) (h.0 ++ after)) ∙ ap (λ t. (first ++ t) ++ (h.0 ++ after)) (sym (append-nil (from_input n 1 last))) ∙ ap (λ t. t ++ (h.0 ++ after)) (sym (inputs_then 1 done (last ∷ []))),
+    )
+
+came_first : (done : List (List Change)) (stop : Stop Change TextFault) (f : fed.Given Change TextFault) → IsGiven 1 done stop f → (more : List Incoming) × (from_inputs 1 f.items ≡ came_of done stop ++ more)
+came_first done NoMore f e = ([], ap (λ (v : fed.Given Change TextFault). from_inputs 1 v.items) e ∙ sym (append-nil (from_inputs 1 done)))
+came_first done (HasFault last fault) f e = ([], ap (λ (v : fed.Given Change TextFault). from_inputs 1 v.items) e ∙ sym (append-nil (came done last)))
+came_first done (CutShort last) f (more, others, e) = let h = part_came done others last more in (h.0, ap (from_inputs 1) e ∙ h.1)
+came_first done NotBegun f (others, e) = (from_inputs (1 + length done) others, ap (from_inputs 1) e ∙ inputs_then 1 done others)
 
 -- ---- the inputs
 
--- an input whose text has a fault is none of map texts
-native_form : (o : RunOptions) (amends : Bool) → o.make.style ≡ Native → HasFaults (input_form o.make.style amends)
-native_form o true e = subst (λ s. HasFaults (input_form s true)) (sym e) tt
-native_form o false e = subst (λ s. HasFaults (input_form s false)) (sym e) tt
-
--- they were read to a fault of a text
-text_met : (w g : ℕ) (t : Task) (inputs : List (Option (List ℕ))) (shared : List ℕ) (left : InputsLeft) (images : List ℕ → Type 0) (old new : Option (List ℕ)) (n : ℕ) (f : TextFault) → Known inputs shared left → IsOfText f → MeetsInput w g t left old new n f
-    → ComesOf w t.options (made_from w t (given_from (make_run.form_of t) g 1 inputs shared)) images old new (Err (Text n f))
-text_met w g t inputs shared left images old new n f k is h =
-    let form = make_run.form_of t in
-    let rest = left_known form g 1 h.read inputs shared left h.rest k h.are in
-    let fails = first_fails form g (1 + length h.read) h.last rest.more rest.left h.rest h.input f (native_form t.options (is_some t.base) (h.native is)) is rest.is_known h.first h.has in
-    let given : given_from form g 1 inputs shared ≡ record { items = h.read ++ h.last ∷ []; fault = Some (Text n f) } =
-    rest.given ∙ ap (after h.read) fails ∙ ap (λ (m : ℕ). let v : Given = record { items = h.read ++ h.last ∷ []; fault = Some (Text m f) } in v) (omega (arith, h.numbered)) in
-    subst (λ v. ComesOf w t.options (made_from w t v) images old new (Err (Text n f))) (sym given)
-    (inl (record { is = sym (ap (λ e. ended_by e (Some (Text n f))) h.goes.going); lines = h.goes.lines; file = tt }))
+-- they were done to a fault of a text
+text_met : (w : ℕ) (t : Task) (done : List (List Change)) (stop : Stop Change TextFault) (last : List Change) (given : fed.Given Change TextFault) (images : List ℕ → Type 0) (old new : Option (List ℕ)) (n : ℕ) (f : TextFault) → n ≡ length done + 1 → stop ≡ HasFault last f → IsGiven 1 done stop given → Goes w t (came_of done stop) old new
+    → ComesOf w t.options (made_from w t (said given)) images old new (Err (Text n f))
+text_met w t done stop last given images old new n f at is are goes =
+    let went = subst (λ s. Goes w t (came_of done s) old new) is goes in
+    let whole : said given ≡ record { items = done ++ last ∷ []; fault = Some (Text n f) } =
+    ap said (subst (λ s. IsGiven 1 done s given) is are) ∙ ap (λ (m : ℕ). let v : Given = record { items = done ++ last ∷ []; fault = Some (Text m f) } in v) (omega (arith, at)) in
+    subst (λ v. ComesOf w t.options (made_from w t v) images old new (Err (Text n f))) (sym whole)
+    (inl (record { is = sym (ap (λ e. ended_by e (Some (Text n f))) went.going); lines = went.lines; file = tt }))
 
 -- or stopped, having read all or a part of what they say
 stops_ended : (w : ℕ) (t : Task) (given : Given) (cs more : List Incoming) (images : List ℕ → Type 0) (old new : Option (List ℕ)) (f : Fault) → from_inputs 1 given.items ≡ cs ++ more → (course_of w t cs).ended ≡ Some f → TellsEach t.options.names (course_of w t cs).told old new → ComesOf w t.options (made_from w t given) images old new (Err f)
@@ -144,66 +163,32 @@ stops_in w g t given cs more images old new NoMemory e h = refused_in w t given 
 stops_in w g t given cs more images old new Output e h = refused_in w t given cs more images old new _ e tt h
 stops_in w g t given cs more images old new f e h = absurd h
 
-stopped_in : (w g : ℕ) (t : Task) (inputs : List (Option (List ℕ))) (shared : List ℕ) (left : InputsLeft) (images : List ℕ → Type 0) (old new : Option (List ℕ)) (f : Fault) → Known inputs shared left → MakeStops w g t left old new f
-    → ComesOf w t.options (made_from w t (given_from (make_run.form_of t) g 1 inputs shared)) images old new (Err f)
-stopped_in w g t inputs shared left images old new f k h =
-    let form = make_run.form_of t in
-    let begins = begins_given form g h.read h.last inputs shared left h.rest k h.are h.begins in
-    stops_in w g t (given_from form g 1 inputs shared) (came h.read h.last) begins.0 images old new f begins.1 h.stops
+-- a run that stopped read the first items of what they say
+module _ (Failed : Type 0) (form : InputForm) (w g : ℕ) (t : Task) (r : Reading) (given : fed.Given Change TextFault) (images : List ℕ → Type 0) (old new : Option (List ℕ)) (are : IsGiven 1 r.items r.stop given) where
+  abbrev Comes : Result Unit Fault → Type 0
+  Comes result = ComesOf w t.options (made_from w t (said given)) images old new result
 
--- the reader of an input failed
-spelled_behind : {X : Type 0} (S : ℕ → List ℕ → X → Type 0) (g : ℕ) (xs : List X) (t rest more input : List ℕ) → input ≡ t ++ more → Spelled S g xs t rest → Spelled S g xs input (rest ++ more)
-spelled_behind S g [] t rest more input split e = split ∙ ap (λ z. z ++ more) e
-spelled_behind S g (x ∷ xs) t rest more input split (first, left, sp, e, spelled) =
-    (first, left ++ more, sp, split ∙ ap (λ z. z ++ more) e ∙ append_assoc first left more, spelled_behind S g xs left rest more (left ++ more) refl spelled)
+  met : (n : ℕ) (f : TextFault) (last : List Change) → IsFaultOf form (length r.items + 1) Failed (Text n f) → r.stop ≡ HasFault last f → Goes w t (came_of r.items r.stop) old new → Comes (Err (Text n f))
+  met n f last of_input is goes = text_met w t r.items r.stop last given images old new n f (of_input.number n f refl) is are goes
 
-lines_behind : (t input more : List ℕ) (rs : List KeyValue) → input ≡ t ++ more → (h : ReadAmid t [] rs) → map_lines input ≡ rs ++ map_lines ((h.part ++ []) ++ more)
-lines_behind t input more rs split h =
-    let lines = h.lines in
-    read_rest input ((h.part ++ []) ++ more) rs
-    (record { lines = lines.lines; whole = lines.whole; split = split ∙ ap (λ z. z ++ more) lines.split ∙ append_assoc (with_newlines lines.lines) (h.part ++ []) more; records = lines.records })
+  failed : (n : ℕ) (f : TextFault) → IsMakeRefusal (Text n f) → Goes w t (came_of r.items r.stop) old new → Comes (Err (Text n f))
+  failed n f may goes = let first = came_first r.items r.stop given are in refused_in w t (said given) (came_of r.items r.stop) first.0 images old new (Text n f) first.1 may (part_whole t.options.names _ old new goes.lines)
 
-some_so : {P Q : List ℕ → Type 0} (input : Option (List ℕ)) → ((input : List ℕ) → P input → Q input) → IfSome input P → IfSome input Q
-some_so None go h = tt
-some_so (Some x) go h = go x h
-
-first_begins_so : (f : InputForm) (g : ℕ) (items : List Change) (left : InputsLeft) (input : Option (List ℕ)) → FirstHas left input → {P : List ℕ → Type 0} → ((input : List ℕ) → P input → BeginsWithItems f g items input) → IfSome input P → FirstBegins f g items left
-first_begins_so f g items left input first go h =
-    subst (λ each. OneBegins f g items each left.shared) (sym first.first) (subst (λ i. IfSome i (BeginsWithItems f g items)) first.has (some_so input go h))
-
-part_begins : (f : InputForm) (g : ℕ) (items : List Change) (input : List ℕ) (fault : TextFault) → IsReadFault fault → HasItemFault f g items fault input → BeginsWithItems f g items input
-part_begins (Puts Native) g items input fault is (records, same, has) =
-    let stops = has.of_reader is in
-    (records, same, (_, spelled_behind Spells g records stops.part stops.amid.rest stops.more input stops.split stops.amid.whole.spelled))
-part_begins (Puts Map) g items input fault is (records, same, has) =
-    let stops = has.of_reader is in
-    (records, same, (_, lines_behind stops.part input stops.more records stops.split stops.amid))
-part_begins Changes g items input fault is has =
-    let stops = has.of_reader is in
-    (_, spelled_behind SpellsChange g items stops.part stops.amid.rest stops.more input stops.split stops.amid.whole.spelled)
-part_begins Lists g items input fault is (listing, same, has) =
-    let stops = has.of_reader is in
-    (listing, same, (_, spelled_behind SpellsKey g listing stops.part stops.amid.rest stops.more input stops.split stops.amid.whole.spelled))
-
-reader_failed : (w g : ℕ) (t : Task) (inputs : List (Option (List ℕ))) (shared : List ℕ) (left : InputsLeft) (images : List ℕ → Type 0) (old new : Option (List ℕ)) (n : ℕ) (f : TextFault) → Known inputs shared left → IsReadFault f → IsMakeRefusal (Text n f) → MeetsInput w g t left old new n f
-    → ComesOf w t.options (made_from w t (given_from (make_run.form_of t) g 1 inputs shared)) images old new (Err (Text n f))
-reader_failed w g t inputs shared left images old new n f k is may h =
-    let form = make_run.form_of t in
-    let first = first_begins_so form g h.last h.rest h.input h.first (λ input has. part_begins form g h.last input f is has) h.has in
-    let begins = begins_given form g h.read h.last inputs shared left h.rest k h.are first in
-    refused_in w t (given_from form g 1 inputs shared) (came h.read h.last) begins.0 images old new (Text n f) begins.1 may (part_whole t.options.names _ old new h.goes.lines)
-
-inputs_stop : (w g : ℕ) (t : Task) (inputs : List (Option (List ℕ))) (shared : List ℕ) (left : InputsLeft) (images : List ℕ → Type 0) (old new : Option (List ℕ)) (f : Fault) → Known inputs shared left → make_run.InputsFail w g t left old new f
-    → ComesOf w t.options (made_from w t (given_from (make_run.form_of t) g 1 inputs shared)) images old new (Err f)
-inputs_stop w g t inputs shared left images old new (Text n (text.Syntax at)) k h = text_met w g t inputs shared left images old new n _ k tt h
-inputs_stop w g t inputs shared left images old new (Text n (text.Ended at)) k h = text_met w g t inputs shared left images old new n _ k tt h
-inputs_stop w g t inputs shared left images old new (Text n (text.Large at)) k h = text_met w g t inputs shared left images old new n _ k tt h
-inputs_stop w g t inputs shared left images old new (Text n text.Input) k h = reader_failed w g t inputs shared left images old new n _ k tt tt h
-inputs_stop w g t inputs shared left images old new (Text n text.Endless) k h = reader_failed w g t inputs shared left images old new n _ k tt tt h
-inputs_stop w g t inputs shared left images old new (Text n text.NoMemory) k h = absurd (h.memory refl)
-inputs_stop w g t inputs shared left images old new other_case k h = stopped_in w g t inputs shared left images old new _ k h
+  inputs_stop : (f : Fault) → IsReading form Failed r (Err f) → StopsAt w t (came_of r.items r.stop) old new f → Comes (Err f)
+  inputs_stop (Text n (text.Syntax at)) is h = met n _ is.stopped.0 is.of_input is.stopped.1 h
+  inputs_stop (Text n (text.Ended at)) is h = met n _ is.stopped.0 is.of_input is.stopped.1 h
+  inputs_stop (Text n (text.Large at)) is h = met n _ is.stopped.0 is.of_input is.stopped.1 h
+  inputs_stop (Text n text.Input) is h = failed n text.Input tt h
+  inputs_stop (Text n text.Endless) is h = failed n text.Endless tt h
+  inputs_stop (Text n text.NoMemory) is h = absurd (is.of_input.memory n text.NoMemory refl refl)
+  inputs_stop f is h = let first = came_first r.items r.stop given are in stops_in w g t (said given) (came_of r.items r.stop) first.0 images old new f first.1 h
 
 -- ---- the run
+
+-- a base has records if there is one
+records_some : (w : ℕ) (base : Option (List ℕ)) → is_some (records_of w base) ≡ is_some base
+records_some w None = refl
+records_some w (Some b) = refl
 
 -- after a base
 with_base : (w g : ℕ) (o : RunOptions) (base : Option (List ℕ)) (inputs : List (Option (List ℕ))) (shared : List ℕ) (images : List ℕ → Type 0) (old new : Option (List ℕ)) (result : Result Unit Fault) → IsSomeBase w o.make.limit base
@@ -211,23 +196,29 @@ with_base : (w g : ℕ) (o : RunOptions) (base : Option (List ℕ)) (inputs : Li
 with_base w g o base inputs shared images old new result is h =
     subst (λ why. ComesOf w o (unless_stopped why (made_from w (task_of o (records_of w base)) (given_from (input_form o.make.style (is_some (records_of w base))) g 1 inputs shared))) images old new result) (sym (some_base w o.make.limit base is)) h
 
-pub made_so : (w g : ℕ) (o : RunOptions) (base : Option (List ℕ)) (inputs : List (Option (List ℕ))) (shared : List ℕ) (left : InputsLeft) (images : List ℕ → Type 0) (old new : Option (List ℕ)) → Known inputs shared left → Makes (terms_of w g o) base left images old new
-    → MakesSo w o (made_of w g o.make base inputs shared) images old new (Ok tt)
-made_so w g o base inputs shared left images old new k h =
-    let t = task_of o (records_of w base) in
-    let m = h.made in
-    let given = all_given (make_run.form_of t) g m.read inputs shared left k m.are in
-    subst (λ why. MakesSo w o (unless_stopped why (made_from w t (given_from (make_run.form_of t) g 1 inputs shared))) images old new (Ok tt)) (sym (some_base w o.make.limit base h.based))
-    (subst (λ v. MakesSo w o (made_from w t v) images old new (Ok tt)) (sym given)
-    (record { is = sym (ap (λ e. ended_by e None) m.goes.going); lines = m.goes.lines; file = m.file }))
+-- of inputs of this form, by what their bytes give
+module _ (Failed : Type 0) (w g : ℕ) (o : RunOptions) (base : Option (List ℕ)) (inputs : List (Option (List ℕ))) (shared : List ℕ) (form : InputForm) (r : Reading) (images : List ℕ → Type 0) (old new : Option (List ℕ)) where
+  abbrev pub GivenBy : InputForm → fed.Given Change TextFault
+  GivenBy f = fed.given_from (input_parsing f g).parse 1 inputs shared
 
-run_fails : (w g : ℕ) (o : RunOptions) (base : Option (List ℕ)) (inputs : List (Option (List ℕ))) (shared : List ℕ) (left : InputsLeft) (images : List ℕ → Type 0) (old new : Option (List ℕ)) (f : Fault) → Known inputs shared left → RunFails (terms_of w g o) base left old new f
-    → ComesOf w o (made_of w g o.make base inputs shared) images old new (Err f)
-run_fails w g o base inputs shared left images old new f k (inl stops) = some_base_stops w g o base images old new _ f stops
-run_fails w g o base inputs shared left images old new f k (inr stops) =
-    with_base w g o base inputs shared images old new (Err f) stops.based (inputs_stop w g (task_of o (records_of w base)) inputs shared left images old new f k stops.fails)
+  -- the base is amended, and then they are read
+  after_base : (result : Result Unit Fault) → form ≡ input_form o.make.style (is_some base) → IsSomeBase w o.make.limit base → ComesOf w o (made_from w (task_of o (records_of w base)) (said (GivenBy form))) images old new result → ComesOf w o (made_of w g o.make base inputs shared) images old new result
+  after_base result same is h =
+      with_base w g o base inputs shared images old new result is
+      (subst (λ v. ComesOf w o (made_from w (task_of o (records_of w base)) v) images old new result)
+      (ap (λ f. said (GivenBy f)) (same ∙ ap (input_form o.make.style) (sym (records_some w base))) ∙ same_given (input_form o.make.style (is_some (records_of w base))) g 1 inputs shared) h)
 
-pub run_comes : (w g : ℕ) (o : RunOptions) (base : Option (List ℕ)) (inputs : List (Option (List ℕ))) (shared : List ℕ) (left : InputsLeft) (images : List ℕ → Type 0) (old new : Option (List ℕ)) (result : Result Unit Fault) → Known inputs shared left → MakeRuns (terms_of w g o) base left images old new result
-    → ComesOf w o (made_of w g o.make base inputs shared) images old new result
-run_comes w g o base inputs shared left images old new (Ok done) k h = inl (made_so w g o base inputs shared left images old new k h.ok)
-run_comes w g o base inputs shared left images old new (Err f) k h = run_fails w g o base inputs shared left images old new f k h.err
+  made_so : IsGiven 1 r.items r.stop (GivenBy form) → r.stop ≡ NoMore → Makes (terms_of w g o) base (came_of r.items r.stop) images old new → ComesOf w o (made_from w (task_of o (records_of w base)) (said (GivenBy form))) images old new (Ok tt)
+  made_so given none h =
+      let t = task_of o (records_of w base) in
+      let m = subst (λ s. Makes (terms_of w g o) base (came_of r.items s) images old new) none h in
+      let whole : said (GivenBy form) ≡ record { items = r.items; fault = None } = ap said (subst (λ s. IsGiven 1 r.items s (GivenBy form)) none given) in
+      subst (λ v. ComesOf w o (made_from w t v) images old new (Ok tt)) (sym whole)
+      (inl (record { is = sym (ap (λ e. ended_by e None) m.goes.going); lines = m.goes.lines; file = m.file }))
+
+  pub run_comes : (result : Result Unit Fault) → form ≡ input_form o.make.style (is_some base) → IsReading form Failed r result → IsGiven 1 r.items r.stop (GivenBy form) → MakeRuns (terms_of w g o) base r images old new result → ComesOf w o (made_of w g o.make base inputs shared) images old new result
+  run_comes (Ok done) same is given h = after_base (Ok done) same h.ok.based (made_so given is.stopped h.ok)
+  run_comes (Err f) same is given h = elim h.err as (λ _. ComesOf w o (made_of w g o.make base inputs shared) images old new (Err f)) [
+    | inl stops ↦ some_base_stops w g o base r images old new _ f stops
+    | inr stops ↦ after_base (Err f) same stops.based (inputs_stop Failed form w g (task_of o (records_of w base)) r (GivenBy form) images old new given f is stops.stops)
+  ]

@@ -24,8 +24,8 @@ pub use Rattle.cdb_show.proofs.ItemInputs.{GaveItems}
 pub use Rattle.cdb_show.proofs.Writers.{not_ok, prefix_kept, whole_prefix}
 pub use Rattle.cdb_show.specs.Message.{TellsEach, TellsPart, Told}
 pub use Rattle.cdb_show.specs.Runs.Flushed.{Flushed}
-pub use Rattle.cdb_show.specs.Runs.Incoming.{Incoming, Known, came, from_input, from_inputs, one_input}
-pub use Rattle.cdb_show.specs.Runs.Inputs.{AreAllInputs, BeginsWithItems, FirstBegins, HasFaults, HasItemFault, InputForm, InputsLeft, IsInputOf, OneBegins, OneInput, bytes_of, input_form}
+pub use Rattle.cdb_show.specs.Runs.Incoming.{Incoming, came, from_input, from_inputs}
+pub use Rattle.cdb_show.specs.Runs.Inputs.{BeginsWithItems, HasItemFault, InputForm, IsInputOf, input_form}
 pub use Rattle.cdb_show.specs.Runs.Lookups.{StopsBehind}
 pub use Rattle.cdb_show.specs.Views.Fault.{make_fault}
 pub use Rattle.cdb_show.specs.Views.Noted.{ArePassed, shared_feed}
@@ -38,10 +38,10 @@ pub use Rattle.cdb_store.proofs.Reading.{reads_more, reads_nothing}
 pub use Rattle.cdb_store.specs.Reads.{OnlyReads}
 pub use Rattle.cdb_store.specs.declared.make_fault.MakeFault.{MakeFault}
 pub use Rattle.cdb_store.specs.declared.store.Store.{Ghosts}
-pub use Rattle.cdb_tool.specs.Runs.Make.{NotAdded, Course, EndsSo, Task, course_of, ends, is_going, mode_of, with_change, with_next, InCourse, MakeRuns, OfBase, PutsInputs, PutsInputsStop, PutsStop, progress, terms_of}
+pub use Rattle.cdb_tool.specs.Runs.Make.{NotAdded, Course, EndsSo, Task, course_of, ends, is_going, mode_of, with_change, with_next, InCourse, OfBase, PutsInputs, PutsInputsStop, PutsStop, progress, terms_of}
 pub use Rattle.cdb_tool.specs.Runs.Made.{made_of}
 pub use Rattle.cdb_tool.specs.Runs.MakesSo.{ComesOf}
-pub use Rattle.cdb_tool.specs.Runs.InputsRead.{BeginsSo, FailsSo, parsing, HasRead, RunsRead, StopsInput, WereRead, feeds_of, run_state, stop_by}
+pub use Rattle.cdb_tool.specs.Runs.InputsRead.{BeginsSo, FailsSo, parsing, RunsRead, StopsInput, feeds_of, run_state, stop_by}
 pub use Rattle.cdb_tool.specs.declared.runs.options.RunOptions.{RunOptions}
 pub use Rattle.std.proofs.Common.{Bool, Err, List, None, Ok, Option, Result, Some, [], ap, append_assoc, arith, drop, false, if◌then◌else◌, inl, inr, is_some, length, length-append, map, refl, rules, subst, sym, take, true, true≢false, ℕ, ◌*◌, ◌++◌, ◌+◌, ◌<◌, ◌^◌, ◌∙◌, ◌∷◌, ◌≡◌, ◌≢◌, ◌≤◌, ◌⊎◌}
 pub use Rattle.std.proofs.Math.Seq.{drop-length}
@@ -51,4 +51,4 @@ pub use Rattle.std.proofs.lemmas.List.{append-nil}
 pub use Rattle.std.proofs.lemmas.List.Sums.{fold-append}
 pub use Rattle.std.proofs.lemmas.Result.{err_from_is_err_and}
 pub use Rattle.std.specs.Io.KnownBytes.{Appends, Keeps}
-pub use Rattle.std.specs.Prelude.{IsOk, OnOk, ⊤}
+pub use Rattle.std.specs.Prelude.{IsOk, OnOk}

@@ -1,9 +1,7 @@
--- The items of some inputs as they come, and what is known of the bytes of the inputs.
+-- The items of some inputs as they come, and the bytes of the inputs.
 use Rattle.cdb_form.specs.Format.{AreBytes}
 use Rattle.cdb_form.specs.Text.Parse.{Change}
-use Rattle.cdb_show.specs.Runs.Inputs.{OneInput, InputsLeft}
-use Rattle.std.specs.Prelude.{ℕ, List, Option, Some, None, ⊤, map, ◌+◌, [], ◌∷◌, ◌++◌, ◌≡◌}
-use Rattle.cdb_show.specs.Runs.Inputs as form
+use Rattle.std.specs.Prelude.{ℕ, List, Option, Some, None, ⊤, ◌+◌, [], ◌∷◌, ◌++◌}
 
 -- an item that comes, the number of its input, and its own there, each from 1 on
 pub record Incoming : Type 0 where
@@ -26,25 +24,8 @@ from_inputs input (cs ∷ inputs) = from_input input 1 cs ++ from_inputs (input 
 abbrev pub came : List (List Change) → List Change → List Incoming
 came read last = from_inputs 1 (read ++ last ∷ [])
 
--- an input, by its bytes
-abbrev pub one_input : Option (List ℕ) → OneInput
-one_input None = form.Shared
-one_input (Some input) = form.Own (Some input)
-
--- the shared bytes are known, if an input begins with them
-abbrev pub KnownFor : List (Option (List ℕ)) → Option (List ℕ) → List ℕ → Type 0
-KnownFor [] given shared = ⊤
-KnownFor (None ∷ inputs) given shared = given ≡ Some shared
-KnownFor (Some input ∷ inputs) given shared = KnownFor inputs given shared
-
+-- the inputs that have bytes of their own have bytes indeed
 abbrev pub EachOfBytes : List (Option (List ℕ)) → Type 0
 EachOfBytes [] = ⊤
 EachOfBytes (None ∷ inputs) = EachOfBytes inputs
 EachOfBytes (Some input ∷ inputs) = AreBytes input × EachOfBytes inputs
-
--- the inputs that are left have these bytes
-pub record Known (inputs : List (Option (List ℕ))) (shared : List ℕ) (left : InputsLeft) : Type 0 where
-  pub each : left.each ≡ map one_input inputs
-  pub known : KnownFor inputs left.shared shared
-  pub own : EachOfBytes inputs
-  pub bytes : AreBytes shared

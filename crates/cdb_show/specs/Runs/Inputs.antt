@@ -1,12 +1,10 @@
--- The items of the inputs of a run, by the form of its inputs. An input is the bytes of its reader, if
--- they are known.
-use Rattle.std.specs.Prelude.{ℕ, ◌≡◌, ◌+◌, ◌*◌, ◌^◌, ◌≤◌, Bool, true, false, List, [], ◌∷◌, ◌++◌, length, map, flat_map, Option, Some, IfSome, ⊤}
+-- The items of the inputs of a run, by the form of its inputs.
+use Rattle.std.specs.Prelude.{ℕ, ◌≡◌, ◌+◌, ◌*◌, ◌^◌, ◌≤◌, Bool, true, false, List, [], ◌++◌, length, map, flat_map, ⊤}
 use Rattle.cdb_form.specs.Format.{KeyValue}
 use Rattle.cdb_form.specs.Text.Parse.{Change, Putting, Removing, SpellsChange, SpelledChanges, ReadsChanges, SpellsKey, SpelledKeys, ReadsKeys, listed}
 use Rattle.cdb_form.specs.Text.Form.{WholeItems, HasFault}
 use Rattle.cdb_form.specs.Text.Map.{map_lines}
 use Rattle.cdb_form.specs.Text.Native.{Spells, Spelled, Reads}
-use Rattle.cdb_form.specs.Views.KnownBytes.{FromTo}
 use Rattle.cdb_form.specs.Views.MapReader.{ReadAmid}
 use Rattle.cdb_form.specs.Views.TextFault.{IsOfText, IsReadFault}
 use Rattle.cdb_form.specs.declared.text.fault.TextFault.{TextFault}
@@ -137,69 +135,3 @@ HasItemFault Changes greatest items fault input =
     (λ part. HasFaultBehind SpellsChange greatest part items (Ended (length part))) fault input
 HasItemFault Lists greatest items fault input =
     AreListed items (λ keys. HasKeyFault greatest keys fault input)
-
--- ---- the inputs, one after the other
-
--- an input has these bytes of its own, or those that the reader has left which several share
-pub data OneInput : Type 0 where
-  Own : Option (List ℕ) → OneInput
-  Shared : OneInput
-
--- the inputs that are left, and what the shared reader has left
-pub record InputsLeft : Type 0 where
-  pub each : List OneInput
-  pub shared : Option (List ℕ)
-
--- inputs that each have bytes of their own
-abbrev pub own_inputs : List (Option (List ℕ)) → InputsLeft
-own_inputs inputs = record { each = map Own inputs; shared = Some [] }
-
--- the bytes of an input
-abbrev pub bytes_of : OneInput → (shared : Option (List ℕ)) → Option (List ℕ)
-bytes_of (Own input) shared = input
-bytes_of Shared shared = shared
-
--- an input was read, a text of these items: what is left of its own bytes is let go, and what is
--- left of the shared ones is what the next such input begins with
-abbrev pub ReadsOne : InputForm → ℕ → List Change → OneInput → (old new : Option (List ℕ))
-    → Type 0
-ReadsOne form greatest items (Own input) old new =
-    IfSome input (λ i. (rest : List ℕ) × IsInputOf form greatest items i rest) × (new ≡ old)
-ReadsOne form greatest items Shared old new = FromTo old new (IsInputOf form greatest items)
-
--- the first one was
-pub record ReadsFirstInputs (form : InputForm) (greatest : ℕ) (items : List Change)
-    (old new : InputsLeft) : Type 0 where
-  pub one : OneInput
-  pub first : old.each ≡ one ∷ new.each
-  pub reads : ReadsOne form greatest items one old.shared new.shared
-
--- the first inputs are texts of these items, and the others follow
-abbrev pub AreInputs : InputForm → ℕ → List (List Change) → (inputs rest : InputsLeft) → Type 0
-AreInputs form greatest [] inputs rest = inputs ≡ rest
-AreInputs form greatest (items ∷ read) inputs rest = (next : InputsLeft)
-    × ReadsFirstInputs form greatest items inputs next × AreInputs form greatest read next rest
-
--- all inputs are texts of these items
-pub record AreAllInputs (form : InputForm) (greatest : ℕ) (read : List (List Change))
-    (inputs : InputsLeft) : Type 0 where
-  pub rest : InputsLeft
-  pub are : AreInputs form greatest read inputs rest
-  pub none : rest.each ≡ []
-
--- the first of these inputs begins with these items
-abbrev pub OneBegins : InputForm → ℕ → List Change → List OneInput → (shared : Option (List ℕ))
-    → Type 0
-OneBegins form greatest items [] shared = items ≡ []
-OneBegins form greatest items (one ∷ inputs) shared =
-    IfSome (bytes_of one shared) (BeginsWithItems form greatest items)
-
-abbrev pub FirstBegins : InputForm → ℕ → List Change → InputsLeft → Type 0
-FirstBegins form greatest items inputs = OneBegins form greatest items inputs.each inputs.shared
-
--- the first of these inputs has these bytes
-pub record FirstHas (inputs : InputsLeft) (input : Option (List ℕ)) : Type 0 where
-  pub one : OneInput
-  pub more : List OneInput
-  pub first : inputs.each ≡ one ∷ more
-  pub has : input ≡ bytes_of one inputs.shared

@@ -1,5 +1,5 @@
 -- What a writer that notes its writes took, and whether one failed.
-use Rattle.std.specs.Prelude.{ℕ, List, [], ◌∷◌, ◌++◌, ⊤, ◌≡◌, drop, map, Option}
+use Rattle.std.specs.Prelude.{ℕ, List, [], ◌∷◌, ◌++◌, ⊤, ◌≡◌, drop}
 use Rattle.cdb_store.specs.Calls.{Calls}
 use Rattle.cdb_store.specs.declared.trace.Call.TheVariants.{Failed, NotWritten}
 use Rattle.cdb_show.specs.declared.noted.Noted.{Noted}
@@ -7,7 +7,6 @@ use Rattle.cdb_show.specs.Feed.{AreRead, Stop, reached, Parsing}
 use Rattle.cdb_show.specs.declared.input_reader.InputReader.{InputReader}
 use Rattle.cdb_show.specs.declared.input_reader.InputReader.TheVariants as reader
 use Rattle.cdb_form.specs.Views.Feed.{Feed}
-use Rattle.cdb_show.specs.Runs.Inputs.{InputsLeft, OneInput, Own, Shared}
 use Rattle.cdb_show.specs.Views.Window as window
 use Rattle.cdb_show.specs.declared.inputs.Inputs.{Inputs}
 use Rattle.cdb_show.specs.declared.inputs.SharedWindow.{SharedWindow}
@@ -68,14 +67,3 @@ AreInPlace [] [] = ⊤
 AreInPlace (reader.Own before ∷ befores) (reader.Own after ∷ afters) = AreInPlace befores afters
 AreInPlace (reader.Shared ∷ befores) (reader.Shared ∷ afters) = AreInPlace befores afters
 AreInPlace before after = ⊥
-
--- an input, by what the readers have left
-abbrev pub one_of : {J : Type 0} → (J → Option (List ℕ)) → InputReader J → OneInput
-one_of remaining (reader.Own own) = Own (remaining own)
-one_of remaining reader.Shared = Shared
-
--- the inputs of a run, before the first is read
-abbrev pub inputs_left : {J I : Type 0} → (own : J → Option (List ℕ))
-    → (shared : I → Option (List ℕ)) → Inputs J I → InputsLeft
-inputs_left own shared inputs =
-    record { each = map (one_of own) inputs.readers.items; shared = shared inputs.shared }

@@ -1,14 +1,14 @@
 -- What a run that makes a database read of its inputs, and what a parser makes of that.
-use Rattle.std.specs.Prelude.{ℕ, ◌≡◌, List, Result, Err, ⊤, [], ◌∷◌, Option, IfErr, IfSome, is_some}
+use Rattle.std.specs.Prelude.{ℕ, ◌≡◌, ◌+◌, List, length, Result, Ok, Err, ⊤, [], ◌∷◌, Option, IfErr, is_some}
 use Rattle.std.proofs.Common.{ap}
 use Rattle.cdb_form.specs.Format.{AreBytes}
 use Rattle.cdb_form.specs.Text.Parse.{Change}
 use Rattle.cdb_form.specs.Text.Parse as text
 use Rattle.cdb_form.specs.Views.TextFault.{IsOfText}
 use Rattle.cdb_form.specs.declared.text.fault.TextFault.{TextFault}
-use Rattle.cdb_show.specs.Feed.{Parsed, Parsing, AreRead, SomeFailed, Stop, StopsSo, NoMore, HasFault, CutShort, NotBegun}
+use Rattle.cdb_show.specs.Feed.{Parsed, Parsing, AreRead, SomeFailed, Stop, StopsSo, NoMore, HasFault, CutShort}
 use Rattle.cdb_show.specs.Runs.Given.{input_parsed}
-use Rattle.cdb_show.specs.Runs.Inputs.{BeginsWithItems, HasFaults, HasItemFault, InputForm, IsInputOf, InputsLeft, AreInputs, FirstHas, input_form}
+use Rattle.cdb_show.specs.Runs.Inputs.{BeginsWithItems, HasFaults, HasItemFault, InputForm, IsInputOf, input_form}
 use Rattle.cdb_show.specs.declared.fault.Fault.{Fault}
 use Rattle.cdb_show.specs.declared.fault.Fault.TheVariants.{Text}
 use Rattle.cdb_show.specs.Runs.InputLaws.{text_begins, text_fails, text_input}
@@ -17,12 +17,12 @@ use Rattle.cdb_form.specs.Views.Feed.{Consumes, Feed}
 use Rattle.cdb_form.specs.declared.text.fault.TextFault.TheVariants as text_fault
 use Rattle.cdb_show.specs.declared.input_reader.InputReader.{InputReader}
 use Rattle.cdb_make.specs.Views.Maker.{WhereHonest}
-use Rattle.cdb_show.specs.Runs.Parsing.{IsOfRun}
+use Rattle.cdb_show.specs.Runs.Parsing.{IsFaultOf}
 use Rattle.cdb_show.specs.Views.Noted.{ArePassed, shared_feed}
 use Rattle.cdb_show.specs.declared.inputs.Inputs.{Inputs}
 use Rattle.cdb_show.specs.declared.inputs.SharedWindow.{SharedWindow}
 use Rattle.cdb_show.specs.declared.inputs.SharedWindow.TheVariants.{Unread}
-use Rattle.cdb_tool.specs.Runs.Make.{MakeRuns, OfBase, Terms}
+use Rattle.cdb_tool.specs.Runs.Make.{MakeRuns, OfBase, Reading, Terms}
 
 -- ---- What a parser of an input makes of its bytes, by the form of the inputs of a run.
 
@@ -57,7 +57,7 @@ parsing form greatest answer = record {
   is_begun = λ items input bytes begins. text_begins form greatest items input bytes begins.begins;
 }
 
--- ---- What a run read of its inputs, and which inputs agree with it.
+-- ---- What a run read of its inputs, and what came of that.
 
 -- ---- the readers
 
@@ -95,24 +95,23 @@ pub record WereRead {J I : Type 0} (feeds : InputFeeds J I) (p : Parsing Change 
   pub lost : List ℕ
   pub let_go : Consumes (shared_feed feeds.shared window) (feeds.shared after.shared) lost
 
--- ---- the bytes
+-- ---- the run
 
--- in the inputs that are left a run stopped so: there are none; the first one has this fault after these items,
--- or begins with these; or it was not begun
-abbrev pub StopsIn : InputForm → ℕ → Result Unit Fault → Stop Change TextFault → InputsLeft → Type 0
-StopsIn form greatest answer NoMore rest = rest.each ≡ []
-StopsIn form greatest answer (HasFault last fault) rest =
-    (input : Option (List ℕ)) × FirstHas rest input × IfSome input (FailsSo form greatest last fault)
-StopsIn form greatest answer (CutShort last) rest =
-    (input : Option (List ℕ)) × FirstHas rest input × IfSome input (BeginsSo form greatest answer last)
-StopsIn form greatest answer NotBegun rest = ⊤
+-- why a run with this answer read no more: there were no more inputs; the next one has the fault that the run reports;
+-- or another fault stopped it, in an input, before the first or after the last
+abbrev pub IsStopOf : Result Unit Fault → Stop Change TextFault → Type 0
+IsStopOf (Ok done) stop = stop ≡ NoMore
+IsStopOf (Err (Text number fault)) stop =
+    (last : List Change) × (stop ≡ stop_by (Text number fault) last)
+IsStopOf (Err fault) (HasFault last other) = ⊥
+IsStopOf (Err fault) stop = ⊤
 
--- inputs with these bytes agree with what a run with this answer read
-pub record HasRead (form : InputForm) (greatest : ℕ) (answer : Result Unit Fault) (read : List (List Change))
-    (stop : Stop Change TextFault) (inputs : InputsLeft) : Type 0 where
-  pub rest : InputsLeft
-  pub are : AreInputs form greatest read inputs rest
-  pub stops : StopsIn form greatest answer stop rest
+-- a run with this answer read so much of inputs of this form: a fault of an input is one of the input in which it
+-- stopped, and if a reader is the fault, one has failed
+pub record IsReading (form : InputForm) (Failed : Type 0) (r : Reading) (result : Result Unit Fault)
+    : Type 0 where
+  pub stopped : IsStopOf result r.stop
+  pub of_input : IfErr result (IsFaultOf form (length r.items + 1) Failed)
 
 -- what a run reads and what it reports, before it or as it left them: its base, its inputs, and the lines
 pub record RunState (B J I : Type 0) : Type 0 where
@@ -128,19 +127,14 @@ run_state base inputs lines = record { base = base; inputs = inputs; lines = lin
 abbrev pub read_form : {B J I : Type 0} → Terms → RunState B J I → InputForm
 read_form terms before = input_form terms.options.make.style (is_some before.base)
 
--- What a run leaves that read its inputs, by its base as it was and as it was returned: what `MakeRuns` says of any
--- inputs that agree with what was read. If a reader is the fault, one has failed.
+-- What a run leaves that read its inputs, by its base as it was and as it was returned.
 pub record RunsRead {B J I : Type 0} (terms : Terms) (feeds : InputFeeds J I) (s : Ghosts B)
     (before after : RunState B J I) (images : List ℕ → Type 0) (result : Result Unit Fault)
     : Type 0 where
-  pub read : List (List Change)
-  pub stop : Stop Change TextFault
-  pub were : WereRead feeds (parsing (read_form terms before) terms.greatest result) read stop
-      before.inputs after.inputs
-  pub runs : (inputs : InputsLeft)
-      → HasRead (read_form terms before) terms.greatest result read stop inputs
-      → WhereHonest images (OfBase s after.base (λ b.
-      MakeRuns terms b inputs images before.lines after.lines result))
-  pub failed : (n : ℕ) → result ≡ Err (Text n text_fault.Input)
-      → SomeFailed feeds.own feeds.shared after.inputs.readers.items after.inputs.shared
-  pub of_run : IfErr result IsOfRun
+  pub read : Reading
+  pub were : WereRead feeds (parsing (read_form terms before) terms.greatest result) read.items
+      read.stop before.inputs after.inputs
+  pub is : IsReading (read_form terms before)
+      (SomeFailed feeds.own feeds.shared after.inputs.readers.items after.inputs.shared) read result
+  pub runs : WhereHonest images (OfBase s after.base (λ b.
+      MakeRuns terms b read images before.lines after.lines result))

@@ -1,5 +1,5 @@
 -- What the run that makes a database leaves, of its base and its inputs.
-use Rattle.std.specs.Prelude.{ℕ, ◌≡◌, ◌<◌, ◌≤◌, ⊤, Bool, false, List, ◌++◌, Some, true, ◌&&◌, ◌||◌, if◌then◌else◌, [], ◌∷◌, fold, Option, None, unwrap_or, Result, Ok, Err, ◌≢◌, ◌+◌, ◌⊎◌, length, is_some, IfSome, OnOk, IfErr, ◌*◌, ◌^◌, take}
+use Rattle.std.specs.Prelude.{ℕ, ◌≡◌, ◌<◌, ◌≤◌, ⊤, Bool, false, List, ◌++◌, Some, true, ◌&&◌, ◌||◌, if◌then◌else◌, [], ◌∷◌, fold, Option, None, unwrap_or, Result, Ok, Err, ◌≢◌, ◌+◌, ◌⊎◌, length, OnOk, IfErr, ◌*◌, ◌^◌, take}
 use Rattle.cdb_store.specs.declared.store.Store.{Ghosts}
 use Rattle.cdb_form.specs.declared.damage.Damage.{Damage}
 use Rattle.cdb_form.specs.declared.width.Width.{Ghosts as Widths}
@@ -27,10 +27,10 @@ use Rattle.cdb_store.specs.Reads.{OnlyReads}
 use Rattle.cdb_form.specs.Views.TextFault.{IsOfText, IsReadFault, LastRead}
 use Rattle.cdb_form.specs.declared.text.fault.TextFault.{TextFault}
 use Rattle.cdb_form.specs.declared.text.fault.TextFault.TheVariants as text_fault
-use Rattle.cdb_show.specs.Runs.Inputs.{InputForm, input_form, HasItemFault, InputsLeft, AreInputs, AreAllInputs, FirstBegins, FirstHas, HasFaultBehind}
+use Rattle.cdb_show.specs.Feed.{CutShort, HasFault, NotBegun, Stop}
+use Rattle.cdb_show.specs.Runs.Inputs.{HasFaultBehind}
 use Rattle.cdb_show.specs.Runs.Parsing.{IsOfRun}
 use Rattle.cdb_show.specs.Views.Output.{OutputSays}
-use Rattle.cdb_command.specs.declared.style.Style.TheVariants.{Native}
 use Rattle.cdb_form.specs.Text.Native.{Spells, Spelled, Reads}
 use Rattle.cdb_form.specs.Views.Feed.{Feed, FromTo}
 use Rattle.cdb_form.specs.Views.KnownBytes.{AppendsPrefix}
@@ -178,6 +178,11 @@ StopsSo w t cs old new NoMemory = Goes w t cs old new
 StopsSo w t cs old new Output = TellsPart t.options.names (course_of w t cs).told old new
 StopsSo w t cs old new fault = ⊥
 
+-- how a run stopped that had come to these items: after them, if it met a fault of an input
+abbrev pub StopsAt : ℕ → Task → List Incoming → Option (List ℕ) → Option (List ℕ) → Fault → Type 0
+StopsAt w t cs old new (Text number fault) = Goes w t cs old new
+StopsAt w t cs old new fault = StopsSo w t cs old new fault
+
 -- ---- What a run leaves that makes a database of the records of a base, if it has one, and of what its
 -- inputs say.
 
@@ -224,49 +229,23 @@ BaseHasFailed s old new = ⊥
 
 -- ---- the inputs
 
--- the form of the inputs of a run
-abbrev pub form_of : Task → InputForm
-form_of t = input_form t.options.make.style (is_some t.base)
+-- what a run read of its inputs: the items of those that it read whole, and why it read no more
+pub record Reading : Type 0 where
+  pub items : List (List Change)
+  pub stop : Stop Change TextFault
 
--- all inputs were read, and each image is the file of the records that the run came to
-pub record MakesDatabase (w greatest : ℕ) (t : Task) (inputs : InputsLeft)
-    (images : List ℕ → Type 0) (old new : Option (List ℕ)) : Type 0 where
-  pub read : List (List Change)
-  pub are : AreAllInputs (form_of t) greatest read inputs
-  pub goes : Goes w t (from_inputs 1 read) old new
-  pub file : IsFile w (course_of w t (from_inputs 1 read)).records images
+abbrev pub reading : List (List Change) → Stop Change TextFault → Reading
+reading items stop = record { items = items; stop = stop }
 
--- inputs were read up to one with this fault
-pub record MeetsInput (w greatest : ℕ) (t : Task) (inputs : InputsLeft)
-    (old new : Option (List ℕ)) (number : ℕ) (fault : TextFault) : Type 0 where
-  pub read : List (List Change)
-  pub last : List Change
-  pub input : Option (List ℕ)
-  pub rest : InputsLeft
-  pub are : AreInputs (form_of t) greatest read inputs rest
-  pub first : FirstHas rest input
-  pub numbered : number ≡ length read + 1
-  pub memory : fault ≢ text_fault.NoMemory
-  pub native : IsOfText fault → t.options.make.style ≡ Native
-  pub has : IfSome input (HasItemFault (form_of t) greatest last fault)
-  pub goes : Goes w t (came read last) old new
+-- it began no input
+abbrev pub none_read : Reading
+none_read = reading [] NotBegun
 
--- inputs were read, of the last one these items, and then the run stopped
-pub record MakeStops (w greatest : ℕ) (t : Task) (inputs : InputsLeft)
-    (old new : Option (List ℕ)) (fault : Fault) : Type 0 where
-  pub read : List (List Change)
-  pub last : List Change
-  pub rest : InputsLeft
-  pub are : AreInputs (form_of t) greatest read inputs rest
-  pub begins : FirstBegins (form_of t) greatest last rest
-  pub stops : StopsSo w t (came read last) old new fault
-
--- what a fault of the inputs, of the store or of the lines leaves
-abbrev pub InputsFail : ℕ → ℕ → Task → InputsLeft → Option (List ℕ) → Option (List ℕ) → Fault
-    → Type 0
-InputsFail w greatest t inputs old new (Text number fault) =
-    MeetsInput w greatest t inputs old new number fault
-InputsFail w greatest t inputs old new fault = MakeStops w greatest t inputs old new fault
+-- the items that came: those of the inputs that were read whole, and of the one in which the run stopped
+abbrev pub came_of : List (List Change) → Stop Change TextFault → List Incoming
+came_of items (HasFault last fault) = came items last
+came_of items (CutShort last) = came items last
+came_of items stop = from_inputs 1 items
 
 -- ---- the run
 
@@ -284,35 +263,37 @@ terms_of word greatest options =
 abbrev pub task_after : Terms → (base : Option (List ℕ)) → Task
 task_after terms base = task_of terms.options (records_of terms.word base)
 
--- it made the database of its base and its inputs
-pub record Makes (terms : Terms) (base : Option (List ℕ)) (inputs : InputsLeft)
+-- it made the database of its base and of these items: each image is the file of the records that it came to
+pub record Makes (terms : Terms) (base : Option (List ℕ)) (cs : List Incoming)
     (images : List ℕ → Type 0) (old new : Option (List ℕ)) : Type 0 where
   pub based : IsSomeBase terms.word terms.options.make.limit base
-  pub made : MakesDatabase terms.word terms.greatest (task_after terms base) inputs images old new
+  pub goes : Goes terms.word (task_after terms base) cs old new
+  pub file : IsFile terms.word (course_of terms.word (task_after terms base) cs).records images
 
--- its base failed, and no line was written; or it came to the inputs
-pub record BaseStops (w limit : ℕ) (base : Option (List ℕ)) (old new : Option (List ℕ))
-    (fault : Fault) : Type 0 where
+-- its base failed, no input was begun, and no line was written; or it came to the inputs
+pub record BaseStops (w limit : ℕ) (base : Option (List ℕ)) (r : Reading)
+    (old new : Option (List ℕ)) (fault : Fault) : Type 0 where
   pub fails : SomeBaseFails w limit base fault
+  pub unread : r ≡ none_read
   pub lines : Appends old new []
 
-pub record InputsStop (terms : Terms) (base : Option (List ℕ)) (inputs : InputsLeft)
+pub record InputsStop (terms : Terms) (base : Option (List ℕ)) (cs : List Incoming)
     (old new : Option (List ℕ)) (fault : Fault) : Type 0 where
   pub based : IsSomeBase terms.word terms.options.make.limit base
-  pub fails : InputsFail terms.word terms.greatest (task_after terms base) inputs old new fault
+  pub stops : StopsAt terms.word (task_after terms base) cs old new fault
 
-abbrev pub RunFails : Terms → Option (List ℕ) → InputsLeft → Option (List ℕ) → Option (List ℕ)
+abbrev pub RunFails : Terms → Option (List ℕ) → Reading → Option (List ℕ) → Option (List ℕ)
     → Fault → Type 0
-RunFails terms base inputs old new fault =
-    BaseStops terms.word terms.options.make.limit base old new fault
-    ⊎ InputsStop terms base inputs old new fault
+RunFails terms base r old new fault =
+    BaseStops terms.word terms.options.make.limit base r old new fault
+    ⊎ InputsStop terms base (came_of r.items r.stop) old new fault
 
--- what a run leaves, if its store has an image
-pub record MakeRuns (terms : Terms) (base : Option (List ℕ)) (inputs : InputsLeft)
+-- what a run leaves that read so much, if its store has an image
+pub record MakeRuns (terms : Terms) (base : Option (List ℕ)) (r : Reading)
     (images : List ℕ → Type 0) (old new : Option (List ℕ)) (result : Result Unit Fault)
     : Type 0 where
-  pub ok : OnOk result (Makes terms base inputs images old new)
-  pub err : IfErr result (RunFails terms base inputs old new)
+  pub ok : OnOk result (Makes terms base (came_of r.items r.stop) images old new)
+  pub err : IfErr result (RunFails terms base r old new)
 
 -- the fault is one of the store
 abbrev pub IsOfStore : Fault → Type 0
@@ -360,17 +341,6 @@ pub record MakeStandsAt {S L : Type 0} {s : Ghosts S} {l : Widths L} (t : Task) 
       (told_count m ≡ length (course_of l.WORD t cs).records)
   pub goes : WhereHonest (s.image m.store) (Goes l.WORD t cs old new)
 
--- the same after the items of some inputs, and these of the next one
-pub record Stands {S L : Type 0} {s : Ghosts S} {l : Widths L} (form : InputForm) (greatest : ℕ)
-    (t : Task) (inputs : InputsLeft) (old new : Option (List ℕ)) (m : Maker S L s l)
-    : Type 0 where
-  pub read : List (List Change)
-  pub last : List Change
-  pub rest : InputsLeft
-  pub are : AreInputs form greatest read inputs rest
-  pub begins : FirstBegins form greatest last rest
-  pub stands : MakeStandsAt t (came read last) old new m
-
 -- the fault is one of the store or of memory, which no item brings
 abbrev pub IsHalt : Fault → Type 0
 IsHalt (Make Lookup) = ⊤
@@ -410,11 +380,6 @@ DoesItem o input number it old new result =
 abbrev pub IsOfMaking : Fault → Type 0
 IsOfMaking (Text number fault) = ⊥
 IsOfMaking fault = IsOfRun fault
-
--- how a run stopped that had come to these items: after them, if it met a fault of an input
-abbrev pub StopsAt : ℕ → Task → List Incoming → Option (List ℕ) → Option (List ℕ) → Fault → Type 0
-StopsAt w t cs old new (Text number fault) = Goes w t cs old new
-StopsAt w t cs old new fault = StopsSo w t cs old new fault
 
 -- it stopped so, and a maker has what it came to, if the fault is one of the store or of memory
 pub record StoppedAt {S L : Type 0} {s : Ghosts S} {l : Widths L} (t : Task) (cs : List Incoming)

@@ -1,17 +1,18 @@
 -- When a run that makes a database comes to what the function of its bytes says.
-use Rattle.std.specs.Prelude.{ℕ, ◌≡◌, ◌⊎◌, ⊤, OnOk, List, Option, Result, Err}
+use Rattle.std.specs.Prelude.{ℕ, ◌≡◌, ◌⊎◌, ⊤, OnOk, List, Option, Result, Err, is_some}
 use Rattle.cdb_tool.specs.declared.runs.options.RunOptions.{RunOptions}
 use Rattle.cdb_form.specs.declared.text.fault.TextFault.TheVariants as text
 use Rattle.cdb_make.specs.Views.Maker.{IsFile}
 use Rattle.cdb_store.specs.declared.make_fault.MakeFault.TheVariants as make
 use Rattle.cdb_read.specs.declared.fault.ReadFault.TheVariants as read
 use Rattle.cdb_show.specs.Message.{TellsEach, TellsPart}
-use Rattle.cdb_show.specs.Runs.Inputs.{InputsLeft}
+use Rattle.cdb_show.specs.Feed.{IsGiven, given_from}
+use Rattle.cdb_show.specs.Runs.Inputs.{input_form}
 use Rattle.cdb_tool.specs.Runs.Made.{Made, made_of}
-use Rattle.cdb_tool.specs.Runs.Make.{MakeRuns, terms_of}
+use Rattle.cdb_tool.specs.Runs.InputsRead.{IsReading, parsing}
+use Rattle.cdb_tool.specs.Runs.Make.{MakeRuns, Reading, terms_of}
 use Rattle.cdb_show.specs.declared.fault.Fault.{Fault}
 use Rattle.cdb_show.specs.declared.fault.Fault.TheVariants.{Text, Make, Read, Output, NoMemory}
-use Rattle.cdb_show.specs.Runs.Incoming.{Known}
 
 -- it came to what was said, and its duplicates were reported
 pub record MakesSo (w : ℕ) (o : RunOptions) (m : Made) (images : List ℕ → Type 0) (old new : Option (List ℕ)) (result : Result Unit Fault) : Type 0 where
@@ -40,9 +41,13 @@ pub record MakeRefused (o : RunOptions) (m : Made) (old new : Option (List ℕ))
 abbrev pub ComesOf : ℕ → RunOptions → Made → (images : List ℕ → Type 0) → (old new : Option (List ℕ)) → Result Unit Fault → Type 0
 ComesOf w o m images old new result = MakesSo w o m images old new result ⊎ MakeRefused o m old new result
 
--- what a run leaves whose store has this image is what the function says, or a refusal
+-- what a run leaves that read so much of inputs with these bytes, and whose store has this image, is what the function
+-- says, or a refusal
 abbrev pub RunsComeOf : (w g : ℕ) → RunOptions → Type 0
 RunsComeOf w g o = (base : Option (List ℕ)) (inputs : List (Option (List ℕ))) (shared : List ℕ)
-    (left : InputsLeft) (image : List ℕ) (old new : Option (List ℕ)) (result : Result Unit Fault)
-    → Known inputs shared left → MakeRuns (terms_of w g o) base left (λ b. b ≡ image) old new result
+    (r : Reading) (image : List ℕ) (old new : Option (List ℕ)) (result : Result Unit Fault)
+    → IsReading (input_form o.make.style (is_some base)) ⊤ r result
+    → IsGiven 1 r.items r.stop
+    (given_from (parsing (input_form o.make.style (is_some base)) g result).parse 1 inputs shared)
+    → MakeRuns (terms_of w g o) base r (λ b. b ≡ image) old new result
     → ComesOf w o (made_of w g o.make base inputs shared) (λ b. b ≡ image) old new result

@@ -1,18 +1,19 @@
 // A database made of the records of a base, if there is one, and of what some inputs say.
-ghost use Rattle.std.specs.Prelude.{◌≡◌, ◌+◌, ◌<◌, ◌≤◌, ℕ, List, [], map, Option, is_some, Result, Ok, Err, length, IfErr, OnOk};
-ghost use Rattle.cdb_form.specs.Views.Feed.{FromTo};
+ghost use Rattle.std.specs.Prelude.{◌≡◌, ◌+◌, ◌<◌, ◌≤◌, ℕ, List, [], map, Option, Some, is_some, Result, Ok, Err, length, IfErr, OnOk};
+ghost use Rattle.std.specs.Borrow.{Bor};
+ghost use Rattle.cdb_form.specs.Views.Feed.{FromTo, reader_feed};
 ghost use Rattle.cdb_form.specs.Format.{head_size};
 ghost use Rattle.cdb_form.specs.Text.Parse.{Change};
 ghost use Rattle.cdb_show.specs.Feed.{AreRead, NoMore, ReaderFailed, SomeFailed, TakesOne};
-ghost use Rattle.cdb_make.specs.Views.Maker.{WhereHonest};
-ghost use Rattle.cdb_show.specs.Runs.Inputs.{IsInputOf, input_form, own_inputs};
+ghost use Rattle.cdb_show.specs.Runs.Inputs.{IsInputOf, input_form};
 ghost use Rattle.cdb_show.specs.Runs.Lookups.{StopsBehind};
 ghost use Rattle.cdb_show.specs.Runs.Parsing.{IsFaultOf};
 ghost use Rattle.cdb_show.specs.Views.Noted.{ArePassed, shared_feed};
 ghost use Rattle.cdb_show.specs.Views.Output.{OutputSays};
 ghost use Rattle.cdb_show.specs.Views.Window.{feed_of};
 ghost use Rattle.cdb_show.specs.declared.fault.Fault.TheVariants.{NoMemory};
-ghost use Rattle.cdb_tool.specs.Runs.Make.{plain, StepsOn, MakeRuns, IsOfStore, IsOfBase, OfBase, HandsBack, BaseHasFailed, PutsInputs, PutsInputsStop, PutsItems, PutsStop, progress, terms_of};
+ghost use Rattle.cdb_show.specs.declared.input_reader.InputReader.TheVariants.{Own};
+ghost use Rattle.cdb_tool.specs.Runs.Make.{plain, StepsOn, IsOfStore, IsOfBase, HandsBack, BaseHasFailed, PutsInputs, PutsInputsStop, PutsItems, PutsStop, progress, terms_of};
 ghost use Rattle.cdb_tool.specs.Runs.InputsRead.{parsing, RunsRead, StopsInput, WereRead, feeds_of, run_state, stop_by};
 
 use crate::runs::context::RunContext;
@@ -357,10 +358,12 @@ pub fn make_run<L: Width, S: Store, B: Store, R: Read + Drop, E: Sink>(
 ) -> (S, Option<B>, Result<(), Fault>)
     requires head { head_size L.WORD ≤ options.limit }
     requires words { options.limit ≤ L.GREATEST }
-    ensures runs { WhereHonest (S.image result.0) (OfBase B.Store result.1 (λ base.
-        MakeRuns (terms_of L.WORD L.GREATEST (plain options)) base
-        (own_inputs (map R.remaining inputs.items))
-        (S.image result.0) (E.contents errors.old) (E.contents errors.new) result.2)) }
+    ensures runs { (before : Inputs R (Bor (List ℕ))) × (after : Inputs R (Bor (List ℕ)))
+        × (before.readers.items ≡ map Own inputs.items)
+        × RunsRead (terms_of L.WORD L.GREATEST (plain options))
+        (feeds_of (λ reader. reader_feed (R.remaining reader)) (λ none. reader_feed (Some none.now)))
+        B.Store (run_state base before (E.contents errors.old))
+        (run_state result.1 after (E.contents errors.new)) (S.image result.0) result.2 }
     ensures hands { HandsBack B.Store base result.1 }
     ensures settled { OnOk result.2 (S.settled result.0) }
     ensures failed { IfErr result.2
@@ -393,8 +396,7 @@ pub fn make_run<L: Width, S: Store, B: Store, R: Read + Drop, E: Sink>(
 /// `run.lines` counts the lines of the inputs, and knows the line of a fault afterwards.
 ///
 /// The inputs are returned whatever the answer; what their windows took past the texts is lost. The
-/// contract holds of whatever bytes agree with what the readers gave: for all inputs that agree
-/// with what was read, it says what the contract of `make_run` says.
+/// contract holds of whatever bytes agree with what the readers gave.
 pub fn make_run_from<L: Width, S: Store, B: Store, J: Feeds + Drop, I: Feeds + Drop, E: Sink>(
     alloc: Global,
     store: S,

@@ -6,7 +6,7 @@ use Rattle.cdb_system.specs.Answered.{if_some}
 use Rattle.cdb_system.specs.Opening.{base_left}
 use Rattle.cdb_system.specs.State.{temporary_of}
 use Rattle.cdb.specs.Contents.{sources_left}
-use Rattle.cdb.specs.Agreeing.{machine_of}
+use Rattle.cdb.specs.Handing.{machine_of}
 use Rattle.cdb.specs.Reasons.{HasFailedFile, HasRefusedFile, HasRefusedName, calls_made, left_reasons, run_reasons, store_reasons}
 use Rattle.cdb.proofs.Reasons.{all_opened, each_weaker, file_then, reason_weaker, some_any}
 use Rattle.cdb.proofs.creating.create.Goals as goal
@@ -32,7 +32,7 @@ returns-then-is_standard-clause-creates g c =
         handed = sources.inputs;
         hands = hands_left sources c.into_left.result _ contents.sources.inputs c.into_left.ensures c.make_on_output-sources.ensures.placed;
         opens = opens_nothing _ _ refl;
-        does = λ each bytes agree. rw c.into_left.ensures (inl (search rules, refl, refl, record { read = refl; other = refl; made = refl }, rw c.in-Ok.ensures.options at (c.make_on_output-sources.ensures.makes each bytes agree)));
+        does = rw c.into_left.ensures (inl (search rules, refl, refl, record { read = refl; other = refl; made = refl }, rw c.in-Ok.ensures.options at c.make_on_output-sources.ensures.makes));
       },
     )
 
@@ -50,7 +50,7 @@ returns-then-is_in_place-clause-creates g c =
         handed = makes.0;
         hands = makes.1;
         opens = c.make_in_place.ensures.opens;
-        does = λ each bytes agree. inr (search rules, Keeps-refl _, inl (search rules, rw c.in-Ok.ensures.options at (makes.2 (g.O.Sink.contents c.args.streams.now.output) each bytes agree)));
+        does = inr (search rules, Keeps-refl _, inl (search rules, rw c.in-Ok.ensures.options at (makes.2 (g.O.Sink.contents c.args.streams.now.output))));
       },
     )
 
@@ -67,7 +67,7 @@ returns-in-Err-temporary_name-clause-creates g c =
         handed = contents.sources.inputs;
         hands = rw c.into_left-in-Err-temporary_name.ensures (rw c.into_sources.ensures (record { readers = refl; shared = refl; stream = refl; placed = same_places contents.sources.inputs.readers.items }));
         opens = opens_nothing _ _ refl;
-        does = λ each bytes agree. rw c.into_left-in-Err-temporary_name.ensures (rw c.into_sources.ensures (inr (search rules, Keeps-refl _, inr (search rules, refl, record { read = refl; other = refl; made = refl }, inl (search rules, refl, refl, Keeps-refl _)))));
+        does = rw c.into_left-in-Err-temporary_name.ensures (rw c.into_sources.ensures (inr (search rules, Keeps-refl _, inr (search rules, refl, record { read = refl; other = refl; made = refl }, inl (search rules, refl, refl, Keeps-refl _)))));
       },
     )
 
@@ -85,8 +85,8 @@ returns-clause-creates g c =
         handed = sources.inputs;
         hands = hands_left sources c.into_left-2.result _ contents.sources.inputs c.into_left-2.ensures c.replace_database-sources.ensures.placed;
         opens = opens_nothing _ _ refl;
-        does = λ each bytes agree.
-            (let made = rw c.in-Ok-temporary_name.ensures at (rw c.as_str.ensures.value at (rw c.in-Ok.ensures.options at (c.replace_database-sources.ensures.replaces (g.Y.System.calls c.open_all.new.system) (g.O.Sink.contents c.args.streams.now.output) each bytes agree))) in
+        does =
+            (let made = rw c.in-Ok-temporary_name.ensures at (rw c.as_str.ensures.value at (rw c.in-Ok.ensures.options at (c.replace_database-sources.ensures.replaces (g.Y.System.calls c.open_all.new.system) (g.O.Sink.contents c.args.streams.now.output)))) in
             rw c.into_left-2.ensures (inr (search rules, Keeps-refl _, inr (search rules, refl, record { read = refl; other = refl; made = refl }, inr made))));
       },
     )

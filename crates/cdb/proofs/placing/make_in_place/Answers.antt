@@ -1,10 +1,9 @@
-use Rattle.cdb.proofs.Words.{IsDatabase, Keeps-refl, Some, [], inl, inputs_of, inr, making_of, refl, rules, same_places, ◌∷◌}
-use Rattle.cdb.proofs.Agreeing.{built_of_one}
+use Rattle.cdb.proofs.Words.{Keeps-refl, Some, [], inl, inr, making_of, refl, rules, same_places, ◌∷◌}
 use Rattle.cdb.proofs.Databases.{database_synced, named_says, synced_says}
 use Rattle.cdb.proofs.HandedBack.{hands_left, making_opens, missing_opens}
 use Rattle.std.proofs.Common.{map, option_map, string_bytes}
 use Rattle.cdb.specs.Contents.{sources_left}
-use Rattle.cdb.specs.Agreeing.{machine_of}
+use Rattle.cdb.specs.Handing.{machine_of}
 use Rattle.cdb.specs.Reasons.{AnyStoreFailed, calls_made, left_reasons, run_reasons}
 use Rattle.cdb.proofs.NameReasons.{finds_one}
 use Rattle.cdb.proofs.Reasons.{each_weaker, emptying_reason, seen_reason, some_any, synced_reason}
@@ -12,11 +11,11 @@ use Rattle.cdb.proofs.placing.make_in_place.Goals as goal
 
 pub returns-then-may_be_read-clause-makes : goal.returns-then-may_be_read-clause-makes
 returns-then-may_be_read-clause-makes g c =
-    rw c.into_left.ensures (rw c.into_sources.ensures (c.args.contents.sources.inputs, record { readers = refl; shared = refl; stream = refl; placed = same_places c.args.contents.sources.inputs.readers.items }, λ output each bytes agree. inl (search rules, refl, record { read = refl; other = refl; made = refl }, refl, Keeps-refl _)))
+    rw c.into_left.ensures (rw c.into_sources.ensures (c.args.contents.sources.inputs, record { readers = refl; shared = refl; stream = refl; placed = same_places c.args.contents.sources.inputs.readers.items }, λ output. inl (search rules, refl, record { read = refl; other = refl; made = refl }, refl, Keeps-refl _)))
 
 pub returns-in-Err-clause-makes : goal.returns-in-Err-clause-makes
 returns-in-Err-clause-makes g c =
-    rw c.into_left-in-Err.ensures (rw c.into_sources-in-Err.ensures (c.args.contents.sources.inputs, record { readers = refl; shared = refl; stream = refl; placed = same_places c.args.contents.sources.inputs.readers.items }, λ output each bytes agree. inr (c.may_be_read.ensures.others (search rules), inl (c.in-Err.fault, c.in-Err.ensures.fails, record { read = refl; other = refl; made = refl }, refl, Keeps-refl _))))
+    rw c.into_left-in-Err.ensures (rw c.into_sources-in-Err.ensures (c.args.contents.sources.inputs, record { readers = refl; shared = refl; stream = refl; placed = same_places c.args.contents.sources.inputs.readers.items }, λ output. inr (c.may_be_read.ensures.others (search rules), inl (c.in-Err.fault, c.in-Err.ensures.fails, record { read = refl; other = refl; made = refl }, refl, Keeps-refl _))))
 
 pub returns-in-Err-clause-opens : goal.returns-in-Err-clause-opens
 returns-in-Err-clause-opens g c = missing_opens _ _ _ c.in-Err.fault c.in-Err.ensures.fails
@@ -29,7 +28,7 @@ returns-clause-makes g c =
     let last = c.synced-flushed.new.store in (
       sources.inputs,
       hands_left sources c.into_left-2.result _ c.args.contents.sources.inputs c.into_left-2.ensures c.build-store.ensures.tells.1,
-      λ output each bytes agree.
+      λ output.
           rw c.into_left-2.ensures (inr (
             c.may_be_read.ensures.others (search rules),
             inr (
@@ -43,12 +42,11 @@ returns-clause-makes g c =
                 last = last;
                 is_last = refl;
                 alone = refl;
-                run = c.build-store.ensures.tells.0 each bytes agree;
+                run = c.build-store.ensures.tells.0;
                 cause = c.build-store.ensures.fails;
                 synced = c.synced-flushed.result;
                 syncs = c.synced-flushed.ensures;
-                has = database_synced g.Y.File.Store g.Y.Made.Store (making_of g.L.Width.WORD g.L.Width.GREATEST c.args.contents (inputs_of each bytes)) sources.base built last made c.synced-flushed.result c.synced-flushed.ensures
-                    (built_of_one g.Y.Stream.Feeds.feed g.Y.Input.Feeds.feed c.args.contents.sources.inputs sources.inputs (λ inputs b. IsDatabase g.Y.File.Store (making_of g.L.Width.WORD g.L.Width.GREATEST c.args.contents inputs) sources.base b) (g.Y.Made.Store.image built) made each bytes agree c.build-store.ensures.built);
+                has = database_synced g.Y.File.Store g.Y.Made.Store (making_of g.L.Width.WORD g.L.Width.GREATEST g.Y.Stream.Feeds.feed g.Y.Input.Feeds.feed c.args.contents sources.inputs) sources.base built last made c.synced-flushed.result c.synced-flushed.ensures c.build-store.ensures.built;
                 named = c.kept-answer.ensures;
               },
             ),

@@ -1,8 +1,7 @@
-use Rattle.cdb.proofs.Words.{inr, making_of, on_ok_weaker, refl, rules, same_places, ⊤}
-use Rattle.cdb_names.proofs.Replacing.{weaker_replacing, weaker_sure}
+use Rattle.cdb.proofs.Words.{inr, making_of, refl, rules, same_places, ⊤}
 use Rattle.cdb.proofs.Agreeing.{Tells, of_contents, told_placed}
 use Rattle.cdb.proofs.Asks.{ok_and}
-use Rattle.cdb.proofs.Replaced.{replaced_says, weaker_moments}
+use Rattle.cdb.proofs.Replaced.{replaced_says}
 use Rattle.std.proofs.Common.{inl, map, option_map, string_bytes, ◌≡◌, ◌⊎◌}
 use Rattle.cdb_names.specs.Replacing.{IsNoName}
 use Rattle.cdb.specs.Reasons.{HasFailedFile, HasRefusedName, run_reasons}
@@ -15,22 +14,22 @@ returns-clause-replaces g c =
     let e = c.replace_file-sources.ensures in
     let sources = c.replace_file-sources.result.0 in
     let answer = c.replace_file-sources.result.1 in
-    λ opened output each bytes agree. inr (
+    λ opened output. inr (
       g.Y.Names.Names.calls c.may_be_read.new.names,
       c.may_be_read.ensures.others (search rules),
       record {
         answer = answer;
         answered = c.answer_to_program.ensures;
-        calls = weaker_replacing (λ b whole. whole each bytes agree) e.calls;
-        moments = weaker_moments _ _ _ _ _ _ (λ b whole. whole each bytes agree) e.any_moment;
-        ok = ok_and _ _ answer e.ok (on_ok_weaker answer (λ sure. weaker_sure _ _ (λ b whole. whole each bytes agree) sure) e.sure);
+        calls = e.calls;
+        moments = e.any_moment;
+        ok = ok_and _ _ answer e.ok e.sure;
         err = e.err;
         no_name = e.no_name;
         guarded = e.guarded;
         renamed = e.renames_ok;
         unrenamed = e.renames_err;
         build = e.build;
-        lines = of_contents g.Y.Stream.Feeds.feed g.Y.Input.Feeds.feed g.E.Sink.contents g.E.Sink.failed g.Y.File.Store g.Y.Names.File.RawFile (making_of g.L.Width.WORD g.L.Width.GREATEST c.args.contents) c.args.contents.sources _ _ _ _ sources _ _ answer each bytes refl agree e.told;
+        lines = of_contents g.Y.Stream.Feeds.feed g.Y.Input.Feeds.feed g.E.Sink.contents g.E.Sink.failed g.Y.File.Store g.Y.Names.File.RawFile (making_of g.L.Width.WORD g.L.Width.GREATEST g.Y.Stream.Feeds.feed g.Y.Input.Feeds.feed c.args.contents) c.args.contents.sources _ _ _ _ sources _ _ answer refl e.told;
       },
     )
 
@@ -39,11 +38,11 @@ returns-then-may_be_read-clause-placed g c = rw c.into_sources.ensures (same_pla
 
 pub returns-clause-placed : goal.returns-clause-placed
 returns-clause-placed g c =
-    told_placed g.Y.Stream.Feeds.feed g.Y.Input.Feeds.feed g.E.Sink.contents g.E.Sink.failed g.Y.File.Store g.Y.Names.File.RawFile (making_of g.L.Width.WORD g.L.Width.GREATEST c.args.contents) c.args.contents.sources _ _ _ _ c.replace_file-sources.result.0 _ _ c.replace_file-sources.result.1 c.replace_file-sources.ensures.told
+    told_placed g.Y.Stream.Feeds.feed g.Y.Input.Feeds.feed g.E.Sink.contents g.E.Sink.failed g.Y.File.Store g.Y.Names.File.RawFile (making_of g.L.Width.WORD g.L.Width.GREATEST g.Y.Stream.Feeds.feed g.Y.Input.Feeds.feed c.args.contents) c.args.contents.sources _ _ _ _ c.replace_file-sources.result.0 _ _ c.replace_file-sources.result.1 c.replace_file-sources.ensures.told
 
 pub returns-clause-output : goal.returns-clause-output
 returns-clause-output g c =
-    rw c.answer_to_program.ensures (replaced_says g.E.Sink.failed g.Y.Names.File.RawFile _ (Tells g.Y.Stream.Feeds.feed g.Y.Input.Feeds.feed g.E.Sink.contents g.E.Sink.failed g.Y.File.Store g.Y.Names.File.RawFile (making_of g.L.Width.WORD g.L.Width.GREATEST c.args.contents) c.args.contents.sources) _ _ _ _ c.replace_file-sources.result.0 _ _ c.replace_file-sources.result.1 (λ images made told. told.2) c.replace_file-sources.ensures.told)
+    rw c.answer_to_program.ensures (replaced_says g.E.Sink.failed g.Y.Names.File.RawFile _ (Tells g.Y.Stream.Feeds.feed g.Y.Input.Feeds.feed g.E.Sink.contents g.E.Sink.failed g.Y.File.Store g.Y.Names.File.RawFile (making_of g.L.Width.WORD g.L.Width.GREATEST g.Y.Stream.Feeds.feed g.Y.Input.Feeds.feed c.args.contents) c.args.contents.sources) _ _ _ _ c.replace_file-sources.result.0 _ _ c.replace_file-sources.result.1 (λ images made told. told.2) c.replace_file-sources.ensures.told)
 
 pub returns-then-may_be_read-clause-reason : goal.returns-then-may_be_read-clause-reason
 returns-then-may_be_read-clause-reason g c =
@@ -61,6 +60,6 @@ returns-clause-reason g c =
     let why = λ (made : Type 0). run_reasons g.Y.File.Store g.Y.Stream.Feeds.feed g.Y.Input.Feeds.feed sources made (HasRefusedName old new ⊎ IsNoName c.args.creation.name.now ⊎ (c.args.temporary.now ≡ c.args.creation.name.now)) in
     rw c.answer_to_program.ensures
     (replaced_reason g.Y.Names.File.RawFile c.args.temporary.now c.args.creation.name.now mid new (why (HasFailedFile g.Y.Names.File.RawFile old new)) (λ none. inr none) (λ refused. inl (name_then old mid new asked.0 asked.1 refused)) (failed_then g.Y.Names.File.RawFile old mid new asked.0 asked.1)
-    _ (Tells g.Y.Stream.Feeds.feed g.Y.Input.Feeds.feed g.E.Sink.contents g.E.Sink.failed g.Y.File.Store g.Y.Names.File.RawFile (making_of g.L.Width.WORD g.L.Width.GREATEST c.args.contents) c.args.contents.sources) sources _ _
+    _ (Tells g.Y.Stream.Feeds.feed g.Y.Input.Feeds.feed g.E.Sink.contents g.E.Sink.failed g.Y.File.Store g.Y.Names.File.RawFile (making_of g.L.Width.WORD g.L.Width.GREATEST g.Y.Stream.Feeds.feed g.Y.Input.Feeds.feed c.args.contents) c.args.contents.sources) sources _ _
     (λ images built told. each_weaker (run_reasons g.Y.File.Store g.Y.Stream.Feeds.feed g.Y.Input.Feeds.feed sources ⊤ ⊥) (why ⊤) built (λ r. r) (λ s. s) (λ m. m) (λ n. absurd n) told.3)
     answer e.err e.build e.told)

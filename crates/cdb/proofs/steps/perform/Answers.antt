@@ -1,5 +1,5 @@
 use Rattle.cdb.proofs.Words.{PerformsIn, false, output_bytes, subst, sym, true, ◌∙◌, ◌≡◌}
-use Rattle.cdb.specs.Agreeing.{machine_of}
+use Rattle.cdb.specs.Handing.{machine_of}
 use Rattle.cdb.specs.Reasons.{CanHaveNoFile, calls_made, left_reasons}
 use Rattle.cdb.proofs.ReadReasons.{command_reason, handed_reason}
 use Rattle.cdb_show.specs.Command.{asked_in, has_wide_words}

@@ -1,11 +1,10 @@
-use Rattle.cdb.proofs.Words.{IsDatabase, Keeps-refl, ap, arith, inl, inputs_of, inr, making_of, refl, same_places, take, ⊤, ◌<◌, ◌∙◌, ◌≡◌}
+use Rattle.cdb.proofs.Words.{Keeps-refl, ap, arith, inl, inr, making_of, refl, same_places, take, ⊤, ◌<◌, ◌∙◌, ◌≡◌}
 use Rattle.std.proofs.lemmas.Result.{IfErr-weaker, on_ok_weaker}
 use Rattle.cdb_store.specs.BufferedStore.{bytes_of}
 use Rattle.cdb_store.specs.Images.{overwrite}
 use Rattle.cdb_store.proofs.OverLemmas.{over_emptied}
 use Rattle.cdb_names.specs.Replacing.{inner_of}
 use Rattle.cdb.specs.Reasons.{run_reasons}
-use Rattle.cdb.proofs.Agreeing.{built_of_all}
 use Rattle.cdb.proofs.Databases.{database_made, run_under}
 use Rattle.cdb.proofs.Reasons.{each_weaker}
 use Rattle.cdb.proofs.building.BuildingBuilder.build.Goals as goal
@@ -17,10 +16,8 @@ returns-in-Ok-clause-built g c =
     let back = c.make_in-buffered.result.1 in
     let made = c.make_in-buffered.result.2 in
     rw (c.into_inner.ensures ∙ ap inner_of c.discard.ensures)
-    (built_of_all g.Y.Stream.Feeds.feed g.Y.Input.Feeds.feed c.args.self.contents.sources.inputs back.inputs (λ inputs b. IsDatabase g.Y.File.Store (making_of g.L.Width.WORD g.L.Width.GREATEST c.args.self.contents inputs) back.base b) (g.S.Store.image left.inner.inner) made
-    (λ each bytes agree. (let ran = run.runs each bytes agree in
-    database_made g.Y.File.Store (making_of g.L.Width.WORD g.L.Width.GREATEST c.args.self.contents (inputs_of each bytes)) back.base _ (g.S.Store.image left.inner.inner) _ _ made ran.hands ran.runs
-    (on_ok_weaker made (λ settled. (over_emptied left.pos (bytes_of left) (g.S.Store.image left.inner.inner) (ap (λ n. take n left.buffer.items) settled.0)).no_other) run.settled))))
+    (database_made g.Y.File.Store (making_of g.L.Width.WORD g.L.Width.GREATEST g.Y.Stream.Feeds.feed g.Y.Input.Feeds.feed c.args.self.contents back.inputs) back.base _ (g.S.Store.image left.inner.inner) _ _ made run.runs
+    (on_ok_weaker made (λ settled. (over_emptied left.pos (bytes_of left) (g.S.Store.image left.inner.inner) (ap (λ n. take n left.buffer.items) settled.0)).no_other) run.settled))
 
 pub returns-in-Ok-clause-fails : goal.returns-in-Ok-clause-fails
 returns-in-Ok-clause-fails g c =
@@ -38,12 +35,12 @@ returns-in-Ok-clause-tells g c =
     let left = c.make_in-buffered.result.0 in
     let back = c.make_in-buffered.result.1 in
     rw (c.into_inner.ensures ∙ ap inner_of c.discard.ensures) (
-      (λ each bytes agree. inl (run_under g.Y.File.Store (making_of g.L.Width.WORD g.L.Width.GREATEST c.args.self.contents (inputs_of each bytes)) back.base _ (g.S.Store.image left.inner.inner) _ _ c.make_in-buffered.result.2 (run.runs each bytes agree) (λ b is. (overwrite b left.pos (bytes_of left), (b, is, refl)))
-          (on_ok_weaker c.make_in-buffered.result.2 (λ settled. (over_emptied left.pos (bytes_of left) (g.S.Store.image left.inner.inner) (ap (λ n. take n left.buffer.items) settled.0)).no_other) run.settled))),
+      inl (run_under g.Y.File.Store (making_of g.L.Width.WORD g.L.Width.GREATEST g.Y.Stream.Feeds.feed g.Y.Input.Feeds.feed c.args.self.contents back.inputs) back.base _ (g.S.Store.image left.inner.inner) _ _ c.make_in-buffered.result.2 run.runs (λ b is. (overwrite b left.pos (bytes_of left), (b, is, refl)))
+          (on_ok_weaker c.make_in-buffered.result.2 (λ settled. (over_emptied left.pos (bytes_of left) (g.S.Store.image left.inner.inner) (ap (λ n. take n left.buffer.items) settled.0)).no_other) run.settled)),
       run.placed,
       run.output,
       each_weaker (run_reasons g.Y.File.Store g.Y.Stream.Feeds.feed g.Y.Input.Feeds.feed back (g.S.Store.failures c.in-Ok.buffered.inner.inner < g.S.Store.failures left.inner.inner) ⊥) (run_reasons g.Y.File.Store g.Y.Stream.Feeds.feed g.Y.Input.Feeds.feed back ⊤ ⊥) c.make_in-buffered.result.2 (λ r. r) (λ s. s) (λ m. tt) (λ n. n) run.reason,
     )
 
 pub returns-in-Err-clause-tells : goal.returns-in-Err-clause-tells
-returns-in-Err-clause-tells g c = rw c.into_sources-sources.ensures ((λ each bytes agree. inr (refl, refl, Keeps-refl _)), same_places c.args.self.contents.sources.inputs.readers.items, tt, tt)
+returns-in-Err-clause-tells g c = rw c.into_sources-sources.ensures (inr (refl, refl, Keeps-refl _), same_places c.args.self.contents.sources.inputs.readers.items, tt, tt)

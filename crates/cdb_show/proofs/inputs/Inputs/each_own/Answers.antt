@@ -1,5 +1,5 @@
-use Rattle.cdb_show.proofs.Words.{[], ap, append-nil, arith, common_steps, map, one_of, rules, sym, ◌++◌, ◌∙◌, ◌≡◌}
-use Rattle.cdb_show.proofs.NextInputs.{own_of, own_bytes}
+use Rattle.cdb_show.proofs.Words.{[], ap, append-nil, arith, common_steps, map, rules, sym, ◌++◌, ◌∙◌, ◌≡◌}
+use Rattle.cdb_show.specs.declared.input_reader.InputReader.TheVariants.{Own}
 use Rattle.cdb_show.proofs.inputs.Inputs.each_own.Goals as goal
 
 pub loop-reader-init : goal.loop-reader-init
@@ -9,11 +9,10 @@ loop-reader-init g c =
     record {
       next = tt;
       finite = tt;
-      done = ap (λ v. map (one_of g.J.Read.remaining) v ++ map (own_of g.J.Read.remaining) left) empty ∙ ap (map (own_of g.J.Read.remaining)) c.into_iter-reader-iterator.ensures.into_iter_gives.0;
+      done = ap (λ v. v ++ map Own left) empty ∙ ap (map Own) c.into_iter-reader-iterator.ensures.into_iter_gives.0;
     }
 
 pub returns-clause-each : goal.returns-clause-each
 returns-clause-each g c =
-    let r = g.J.Read.remaining in
     let ended : c.loop-reader.reader-iterator.rest.items ≡ [] = grind (arith, common_steps) in
-    sym (append-nil (map (one_of r) c.loop-reader.own.items)) ∙ ap (λ v. map (one_of r) c.loop-reader.own.items ++ map (own_of r) v) (sym ended) ∙ c.loop-reader.invariant.done ∙ own_bytes r c.args.readers.items
+    sym (append-nil c.loop-reader.own.items) ∙ ap (λ v. c.loop-reader.own.items ++ map Own v) (sym ended) ∙ c.loop-reader.invariant.done

@@ -1,5 +1,5 @@
-use Rattle.cdb_show.proofs.Words.{map, one_of, ◌++◌, ◌≡◌}
-use Rattle.cdb_show.proofs.NextInputs.{own_of}
+use Rattle.cdb_show.proofs.Words.{map, ◌++◌, ◌≡◌}
+use Rattle.cdb_show.specs.declared.input_reader.InputReader.TheVariants.{Own}
 use Rattle.cdb_show.proofs.inputs.Inputs.each_own.Given as goal
 
 -- the readers so far are inputs of their own
@@ -8,5 +8,5 @@ invariant-loop-reader g l =
     record {
       next : (goal.iterator-loop-reader g).can_next l.reader-iterator;
       finite : (goal.iterator-loop-reader g).is_finite l.reader-iterator;
-      done : map (one_of g.J.Read.remaining) l.own.items ++ map (own_of g.J.Read.remaining) l.reader-iterator.rest.items ≡ map (own_of g.J.Read.remaining) l.fn.readers.items;
+      done : l.own.items ++ map Own l.reader-iterator.rest.items ≡ map Own l.fn.readers.items;
     }

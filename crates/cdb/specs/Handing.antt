@@ -1,13 +1,10 @@
--- Which bytes agree with the inputs of a create, as they were opened and as their readers are returned.
-use Rattle.std.specs.Prelude.{ℕ, ◌≡◌, ◌++◌, List, Option, Some, None, ⊤, length, map}
+-- The inputs of a create, as they were opened and as their readers are returned, and what it runs on.
+use Rattle.std.specs.Prelude.{◌≡◌, ◌++◌, Some, None, ⊤}
 use Rattle.std.specs.List.{AllByRecursion}
-use Rattle.cdb_show.specs.Feed.{AgreesWith, AreUnread, FirstAgree, IsUnread}
 use Rattle.cdb_form.specs.Views.Feed.{Feed}
-use Rattle.cdb_form.specs.Format.{AreBytes}
-use Rattle.cdb_show.specs.Runs.Incoming.{one_input}
-use Rattle.cdb_show.specs.Runs.Inputs.{InputsLeft}
 use Rattle.cdb_show.specs.Views.Noted.{AreInPlace}
 use Rattle.cdb_show.specs.declared.inputs.Inputs.{Inputs}
+use Rattle.cdb_tool.specs.Runs.InputsRead.{InputFeeds, feeds_of}
 use Rattle.cdb_system.specs.Opening.{OpenCalls}
 use Rattle.cdb_system.specs.declared.left.Left.{Left}
 use Rattle.cdb_system.specs.declared.open_trace.OpenCall.{OpenCall}
@@ -17,24 +14,16 @@ use Rattle.cdb_store.specs.declared.store.Store.{Ghosts}
 use Rattle.cdb_system.specs.State.{Files, files_of}
 use Rattle.cdb_system.specs.declared.system.System.{Ghosts as Systems}
 
--- inputs that have these bytes; an input without bytes of its own begins in the shared ones
-abbrev pub inputs_of : (each : List (Option (List ℕ))) → (shared : List ℕ) → InputsLeft
-inputs_of each shared = record { each = map one_input each; shared = Some shared }
+-- the inputs of a create: what is known of their readers, which were opened so and are returned so
+pub record InputsTaken (J I : Type 0) : Type 1 where
+  pub feeds : InputFeeds J I
+  pub opened : Inputs J I
+  pub handed : Inputs J I
 
--- they agree with what is known of the readers afterwards, of which nothing had been taken before
-pub record InputsAgree {J I : Type 0} (own : J → Feed) (shared : I → Feed)
-    (before after : Inputs J I) (each : List (Option (List ℕ))) (bytes : List ℕ) : Type 0 where
-  pub unread : AreUnread own before.readers.items
-  pub none_read : IsUnread (shared before.shared)
-  pub long : length each ≡ length before.readers.items
-  pub agree : FirstAgree own AreBytes (length each) each after.readers.items
-  pub shared_agrees : AgreesWith AreBytes (shared after.shared) bytes
-
--- this holds of all inputs that agree
-abbrev pub OfAgreeing : {J I : Type 0} → (own : J → Feed) → (shared : I → Feed)
-    → (before after : Inputs J I) → (InputsLeft → Type 0) → Type 0
-OfAgreeing own shared before after P = (each : List (Option (List ℕ))) (bytes : List ℕ)
-    → InputsAgree own shared before after each bytes → P (inputs_of each bytes)
+abbrev pub inputs_taken : {J I : Type 0} → (own : J → Feed) → (shared : I → Feed) → (opened handed : Inputs J I)
+    → InputsTaken J I
+inputs_taken own shared opened handed =
+    record { feeds = feeds_of own shared; opened = opened; handed = handed }
 
 -- a call opens no file that is read
 abbrev pub OpensNone : OpenCall → Type 0
