@@ -13,7 +13,7 @@ pub mod KeyInputs
 pub mod ItemInputs
 pub mod NextInputs
 pub mod LookupRuns
-pub mod FedTurns
+pub mod InputTurns
 pub mod FedLookupRuns
 pub mod WalksSoFar
 pub mod WholeTexts

@@ -3,6 +3,7 @@ pub mod Inputs
 pub mod Given
 pub mod InputLaws
 pub mod Parsing
+pub mod InputTask
 pub mod Incoming
 pub mod Query
 pub mod Flushed

@@ -40,6 +40,8 @@ pub use runs::check::check_run;
 pub use runs::content::Content;
 pub use runs::difference::difference_run;
 pub use runs::flushed::flushed;
+pub use runs::input_task::{InputContext, InputTask};
+pub use runs::input_turns::do_inputs;
 pub use runs::item_reader::ItemReader;
 pub use runs::load::{load, load_from};
 pub use runs::lookup_options::LookupOptions;

@@ -3,6 +3,8 @@ pub mod check;
 pub mod content;
 pub mod difference;
 pub mod flushed;
+pub mod input_task;
+pub mod input_turns;
 pub mod item_reader;
 mod key_reader;
 pub mod load;

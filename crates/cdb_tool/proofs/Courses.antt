@@ -350,7 +350,3 @@ came_none read = inputs_none 1 read
 pub as_told : (P : Mode → KeyValue → Type 0) (m n : Mode) (k v : List ℕ) (r : KeyValue) → m ≡ n → k ≡ r.key → v ≡ r.value → P m (record { key = k; value = v }) → P n r
 as_told P m n k v r a b d p =
     subst (λ x. P x r) a (subst (λ x. P m (record { key = r.key; value = x })) d (subst (λ x. P m (record { key = x; value = v })) b p))
-
-pub err_each : {T E : Type 0} {P Q : E → Type 0} (r : Result T E) → ((e : E) → P e → Q e) → IfErr r P → IfErr r Q
-err_each (Ok x) f p = tt
-err_each (Err e) f p = f e p

@@ -2,7 +2,6 @@ pub mod WholeRuns
 pub mod BaseRecords
 pub mod Courses
 pub mod InputRuns
-pub mod FedTurns
 pub mod FedRuns
 pub mod FedEnds
 pub mod AgreeingRuns

@@ -2,7 +2,7 @@
 pub use Rattle.cdb_show.specs.Feed.{AgreesWith, AreRead, AreUnread, CutShort, FirstAgree, HasFault, IsUnread, NoMore, NotBegun, Stop, StopsSo, TakesOne, reached}
 pub use Rattle.cdb_show.specs.declared.input_reader.InputReader.{InputReader}
 pub use Rattle.cdb_form.proofs.Bytes.WritingLemmas.{appends_kept, appends_none}
-pub use Rattle.cdb_form.proofs.Fed.FeedLemmas.{from_weaker, nothing_taken}
+pub use Rattle.cdb_form.proofs.Fed.FeedLemmas.{nothing_taken}
 pub use Rattle.cdb_form.specs.Views.Feed.{Consumes, Feed, FromTo}
 pub use Rattle.cdb_form.specs.Format.{file_size, KeyValue, Walked, with_first}
 unfoldable pub use Rattle.cdb_form.specs.Format.{walk_of}
@@ -25,10 +25,11 @@ pub use Rattle.cdb_show.proofs.Writers.{not_ok, prefix_kept, whole_prefix}
 pub use Rattle.cdb_show.specs.Message.{TellsEach, TellsPart, Told}
 pub use Rattle.cdb_show.specs.Runs.Flushed.{Flushed}
 pub use Rattle.cdb_show.specs.Runs.Incoming.{Incoming, came, from_input, from_inputs}
-pub use Rattle.cdb_show.specs.Runs.Inputs.{BeginsWithItems, HasItemFault, InputForm, IsInputOf, input_form}
+pub use Rattle.cdb_show.specs.Runs.Inputs.{BeginsWithItems, HasFaults, HasItemFault, InputForm, IsInputOf, input_form}
 pub use Rattle.cdb_show.specs.Runs.Lookups.{StopsBehind}
+pub use Rattle.cdb_show.specs.Runs.InputTask.{progress}
 pub use Rattle.cdb_show.specs.Views.Fault.{make_fault}
-pub use Rattle.cdb_show.specs.Views.Noted.{ArePassed, shared_feed}
+pub use Rattle.cdb_show.specs.Views.Noted.{shared_feed}
 pub use Rattle.cdb_show.specs.Views.ItemReader.{form_of, reader_of}
 pub use Rattle.cdb_show.specs.Views.Output.{OutputSays}
 pub use Rattle.cdb_show.specs.declared.fault.Fault.{Fault}
@@ -38,17 +39,16 @@ pub use Rattle.cdb_store.proofs.Reading.{reads_more, reads_nothing}
 pub use Rattle.cdb_store.specs.Reads.{OnlyReads}
 pub use Rattle.cdb_store.specs.declared.make_fault.MakeFault.{MakeFault}
 pub use Rattle.cdb_store.specs.declared.store.Store.{Ghosts}
-pub use Rattle.cdb_tool.specs.Runs.Make.{NotAdded, Course, EndsSo, Task, course_of, ends, is_going, mode_of, with_change, with_next, InCourse, OfBase, PutsInputs, PutsInputsStop, PutsStop, progress, terms_of}
+pub use Rattle.cdb_tool.specs.Runs.Make.{Course, EndsSo, InCourse, MakeRuns, NotAdded, OfBase, PutsInputs, PutsInputsStop, Task, course_of, ends, is_going, mode_of, terms_of, with_change, with_next}
 pub use Rattle.cdb_tool.specs.Runs.Made.{made_of}
 pub use Rattle.cdb_tool.specs.Runs.MakesSo.{ComesOf}
-pub use Rattle.cdb_tool.specs.Runs.InputsRead.{BeginsSo, FailsSo, parsing, RunsRead, StopsInput, feeds_of, run_state, stop_by}
+pub use Rattle.cdb_tool.specs.Runs.InputsRead.{RunsRead, WereRead, feeds_of, parsing, run_state, stop_by}
 pub use Rattle.cdb_tool.specs.declared.runs.options.RunOptions.{RunOptions}
-pub use Rattle.std.proofs.Common.{Bool, Err, List, None, Ok, Option, Result, Some, [], ap, append_assoc, arith, drop, false, if◌then◌else◌, inl, inr, is_some, length, length-append, map, refl, rules, subst, sym, take, true, true≢false, ℕ, ◌*◌, ◌++◌, ◌+◌, ◌<◌, ◌^◌, ◌∙◌, ◌∷◌, ◌≡◌, ◌≢◌, ◌≤◌, ◌⊎◌}
-pub use Rattle.std.proofs.Math.Seq.{drop-length}
+pub use Rattle.std.proofs.Common.{Bool, Err, List, None, Ok, Option, Result, Some, [], ap, append_assoc, arith, false, if◌then◌else◌, inl, inr, is_some, length, length-append, map, refl, rules, subst, sym, take, true, true≢false, ℕ, ◌*◌, ◌++◌, ◌+◌, ◌<◌, ◌^◌, ◌∙◌, ◌∷◌, ◌≡◌, ◌≢◌, ◌≤◌, ◌⊎◌}
 pub use Rattle.std.proofs.lemmas.Bool.{cond-true, le-leb}
 pub use Rattle.std.proofs.lemmas.Grind.{common_steps}
 pub use Rattle.std.proofs.lemmas.List.{append-nil}
 pub use Rattle.std.proofs.lemmas.List.Sums.{fold-append}
 pub use Rattle.std.proofs.lemmas.Result.{err_from_is_err_and}
 pub use Rattle.std.specs.Io.KnownBytes.{Appends, Keeps}
-pub use Rattle.std.specs.Prelude.{IsOk, OnOk}
+pub use Rattle.std.specs.Prelude.{IsOk, OnOk, ⊤}

@@ -22,7 +22,7 @@ use Rattle.cdb_form.specs.declared.text.fault.TextFault.{TextFault}
 use Rattle.cdb_form.specs.declared.text.fault.TextFault.TheVariants as text_fault
 use Rattle.cdb_read.specs.declared.fault.ReadFault.TheVariants as read_fault
 use Rattle.cdb_show.specs.Runs.Flushed.{FlushedWhole}
-use Rattle.cdb_show.specs.Runs.Parsing.{IsFaultOf, IsOfRun, StopsIn, fault_in, stop_of, stopped_parsing}
+use Rattle.cdb_show.specs.Runs.Parsing.{IsFaultOf, IsOfRun, fault_in, stop_of, stopped_parsing}
 use Rattle.cdb_show.specs.Views.Noted.{AreReadTo}
 
 -- ---- What a query of the keys of some inputs comes to, if nothing is refused: a function of the bytes of
@@ -153,12 +153,6 @@ LookupsStopAt t keys old new start end (Text input fault) =
 LookupsStopAt t keys old new start end fault = ⊥
 
 -- ---- the keys of an input
-
--- a run stopped in this text after these items, with this fault of it or for another reason
-abbrev pub StopsInText : {S : Type 0} → LookupTask S → Option TextFault → List Change
-    → (text rest : List ℕ) → Type 0
-StopsInText t fault last text rest =
-    StopsIn (stopped_parsing (keys_form t.options.style) t.greatest fault) (stop_of fault last) text
 
 -- whatever bytes agree, an input has this fault after these items: no failed allocation, and a map text
 -- has no fault of its own; `Input` comes only if the reader failed

@@ -1,199 +1,65 @@
 // The records of the keys that some inputs give, whose readers come back.
-ghost use Rattle.std.specs.Prelude.{◌≡◌, ◌+◌, ◌≤◌, ◌++◌, ℕ, List, [], Option, None, Err, IfErr, IfSome, OnOk, drop, length};
-ghost use Rattle.cdb_show.specs.Feed.{AreRead, NoMore, ReaderFailed, SomeFailed, TakesOne};
-ghost use Rattle.cdb_form.specs.Views.Feed.{FromTo};
-ghost use Rattle.cdb_form.specs.Text.Parse.{Change};
-ghost use Rattle.cdb_show.specs.Runs.Lookups.{LookupsLeave, LooksUp, StopsInText, HasLooked, LookupsStopAt, StopsBehind, lookup_state, lookup_task};
-ghost use Rattle.cdb_show.specs.Runs.Inputs.{IsInputOf, keys_form, keys_of, keys_of_each};
-ghost use Rattle.cdb_show.specs.Runs.Parsing.{IsFaultOf, fault_in, stop_of, stopped_parsing};
-ghost use Rattle.cdb_show.specs.Views.Noted.{shared_feed};
-ghost use Rattle.cdb_show.specs.Views.LookUps.{GoesOn, Looks, StopsLooking, task_of};
+ghost use Rattle.std.specs.Prelude.{◌≤◌, IfSome};
+ghost use Rattle.cdb_show.specs.Runs.Lookups.{LookupsLeave, LooksUp, lookup_state, lookup_task};
 ghost use Rattle.cdb_show.specs.Views.Output.{OutputSays};
-ghost use Rattle.cdb_show.specs.Views.Window.{feed_of};
 
-use crate::InputReader;
 use crate::fault::Fault;
-use crate::inputs::{Inputs, SharedWindow};
+use crate::inputs::Inputs;
 use crate::lines::{InLined, Lined, Lines};
 use crate::runs::flushed::flushed_whole;
+use crate::runs::input_task::{InputContext, InputTask};
+use crate::runs::input_turns::do_inputs;
 use crate::runs::key_reader::KeyReader;
 use crate::runs::lookup_options::LookupOptions;
-use crate::runs::lookups::LookUps;
+use crate::runs::lookups::{LookUps, Looking};
 use crate::runs::walk_text::write_last;
 use crate::window::{InWindow, Window};
 use cdb_form::{Feeds, Sink, Width};
 use cdb_read::Reader;
 use cdb_store::Store;
 use std::alloc::Global;
-use std::mem::replace;
 
-impl<'a, S: Store, L: Width> LookUps<'a, S, L> {
-    /// Writes the records of the keys that the rest of an input gives. Inputs are counted from 1.
-    /// Returns the window, which goes on after the text, or after the last key that was read.
-    fn look_up_text<F: Feeds, W: Sink>(
-        &mut self,
+/// Writes the records of the keys that an input gives.
+impl<S: Store, L: Width, W: Sink> InputTask<Looking<S, L>, W> for LookUps<'_> {
+    ghost use Rattle.cdb_show.specs.Views.LookUps.{lookup_work};
+
+    ghost work = { λ it. lookup_work (lookup_task L.WORD L.GREATEST S.Store it.options) };
+
+    fn do_text<F: Feeds>(
+        &self,
+        looking: &mut Looking<S, L>,
         input: u64,
         window: Window<F>,
         w: &mut W,
-    ) -> (Window<F>, Result<(), Fault>)
-        ensures goes_on { GoesOn self.old self.new }
-        ensures ok { OnOk result.1 ((last : List Change)
-            × FromTo (feed_of F.feed window) (feed_of F.feed result.0)
-            (IsInputOf (keys_form self.old.options.style) L.GREATEST last)
-            × Looks last self.old self.new (W.contents w.old) (W.contents w.new)) }
-        ensures fails { IfErr result.1 (λ fault. (last : List Change)
-            × StopsBehind (keys_form self.old.options.style) L.GREATEST input last
-            (feed_of F.feed window) (feed_of F.feed result.0) fault
-            × StopsLooking last self.old self.new (W.contents w.old) (W.contents w.new) fault) }
-        ensures output { OutputSays (W.failed w.new) result.1 }
-    {
-        if self.lines.counts {
-            let lined = Lined::new(window, self.lines);
-            let mut keys = KeyReader::new(self.alloc, self.options.style, lined);
-            let answer = self.look_up_input::<_, W, InLined>(input, &mut keys, w);
+    ) -> (Window<F>, Result<(), Fault>) {
+        let InputContext { alloc, lines } = self.context;
+        if lines.counts {
+            let lined = Lined::new(window, lines);
+            let mut keys = KeyReader::new(alloc, self.options.style, lined);
+            let answer = self.look_up_input::<S, L, _, W, InLined>(looking, input, &mut keys, w);
             return (keys.into_reader().into_window(), answer);
         }
-        let mut keys = KeyReader::new(self.alloc, self.options.style, window);
-        let answer = self.look_up_input::<_, W, InWindow>(input, &mut keys, w);
+        let mut keys = KeyReader::new(alloc, self.options.style, window);
+        let answer = self.look_up_input::<S, L, _, W, InWindow>(looking, input, &mut keys, w);
         (keys.into_reader(), answer)
     }
+}
 
-    /// Writes the records of the keys of an input with a reader of its own, and returns this
-    /// reader. The bytes that were taken of it after its text, or after the last key, are lost.
-    fn look_up_own<J: Feeds, W: Sink>(
-        &mut self,
-        input: u64,
-        own: J,
-        w: &mut W,
-    ) -> (J, Result<(), Fault>)
-        ensures goes_on { GoesOn self.old self.new }
-        ensures ok { OnOk result.1 ((last : List Change)
-            × FromTo (J.feed own) (J.feed result.0) (λ text left. (rest : List ℕ)
-            × IsInputOf (keys_form self.old.options.style) L.GREATEST last text rest)
-            × Looks last self.old self.new (W.contents w.old) (W.contents w.new)) }
-        ensures fails { IfErr result.1 (λ fault. (last : List Change)
-            × StopsBehind (keys_form self.old.options.style) L.GREATEST input last
-            (J.feed own) (J.feed result.0) fault
-            × StopsLooking last self.old self.new (W.contents w.old) (W.contents w.new) fault) }
-        ensures output { OutputSays (W.failed w.new) result.1 }
-    {
-        let window = match Window::growing(self.alloc, own) {
-            Ok(window) => window,
-            Err(refused) => return (refused.reader, Err(Fault::NoMemory)),
-        };
-        let (window, answer) = self.look_up_text(input, window, w);
-        (window.into_reader(), answer)
-    }
-
-    /// Writes the records of the keys of an input, whose number is counted from 1, and returns the
-    /// reader that the inputs share. A reader of its own is back in its place whatever the answer.
-    fn look_up_turn<J: Feeds + Drop, I: Feeds, W: Sink>(
-        &mut self,
-        input: u64,
-        turn: &mut InputReader<J>,
-        shared: SharedWindow<I>,
-        w: &mut W,
-    ) -> (SharedWindow<I>, Result<(), Fault>)
-        ensures goes_on { GoesOn self.old self.new }
-        ensures ok { OnOk result.1 ((last : List Change)
-            × TakesOne J.feed (shared_feed I.feed)
-            (IsInputOf (keys_form self.old.options.style) L.GREATEST last) turn.old turn.new shared result.0
-            × Looks last self.old self.new (W.contents w.old) (W.contents w.new)) }
-        ensures fails { IfErr result.1 (λ fault. (last : List Change)
-            × TakesOne J.feed (shared_feed I.feed)
-            (StopsInText (task_of self.old) (fault_in (Err fault)) last) turn.old turn.new shared result.0
-            × IsFaultOf (keys_form self.old.options.style) input
-            (ReaderFailed J.feed (shared_feed I.feed) turn.new result.0) fault
-            × StopsLooking last self.old self.new (W.contents w.old) (W.contents w.new) fault) }
-        ensures output { OutputSays (W.failed w.new) result.1 }
-    {
-        match replace(turn, InputReader::Shared) {
-            InputReader::Own(own) => {
-                self.lines.begin(false);
-                let (own, answer) = self.look_up_own(input, own, w);
-                *turn = InputReader::Own(own);
-                (shared, answer)
-            }
-            InputReader::Shared => {
-                self.lines.begin(true);
-                let window = match shared.in_hand(self.alloc) {
-                    Ok(window) => window,
-                    Err(refused) => {
-                        return (SharedWindow::Unread(refused.reader), Err(Fault::NoMemory));
-                    }
-                };
-                let (window, answer) = self.look_up_text(input, window, w);
-                (SharedWindow::InHand(window), answer)
-            }
-        }
-    }
-
-    /// Writes the records of the keys of some inputs, one after the other, and returns the reader
-    /// that they share.
-    fn look_up_readers<J: Feeds + Drop, I: Feeds, W: Sink>(
-        &mut self,
-        readers: &mut [InputReader<J>],
-        shared: SharedWindow<I>,
-        w: &mut W,
-    ) -> (SharedWindow<I>, Result<(), Fault>)
-        ensures goes_on { GoesOn self.old self.new }
-        ensures ok { OnOk result.1 ((read : List (List Change))
-            × AreRead J.feed (shared_feed I.feed)
-            (stopped_parsing (keys_form self.old.options.style) L.GREATEST None)
-            read NoMore readers.old readers.new shared result.0
-            × (drop (length read) readers.new ≡ drop (length read) readers.old)
-            × ((start : Option (List ℕ)) → HasLooked (task_of self.old) []
-            self.old.reader.store start (W.contents w.old) self.old.missing
-            → HasLooked (task_of self.old) (keys_of_each read)
-            self.new.reader.store start (W.contents w.new) self.new.missing)) }
-        ensures fails { IfErr result.1 (λ fault. (read : List (List Change)) × (last : List Change)
-            × AreRead J.feed (shared_feed I.feed)
-            (stopped_parsing (keys_form self.old.options.style) L.GREATEST (fault_in (Err fault)))
-            read (stop_of (fault_in (Err fault)) last) readers.old readers.new shared result.0
-            × (drop (length read + 1) readers.new ≡ drop (length read + 1) readers.old)
-            × IsFaultOf (keys_form self.old.options.style) (length read + 1)
-            (SomeFailed J.feed (shared_feed I.feed) readers.new result.0) fault
-            × ((start : Option (List ℕ)) → HasLooked (task_of self.old) []
-            self.old.reader.store start (W.contents w.old) self.old.missing
-            → LookupsStopAt (task_of self.old) (keys_of_each read ++ keys_of last)
-            self.old.reader.store self.new.reader.store start (W.contents w.new) fault)) }
-        ensures output { OutputSays (W.failed w.new) result.1 }
-    {
-        let mut shared = shared;
-        let mut i = 0;
-        while i < readers.len() {
-            let (left, looked) = self.look_up_turn(i as u64 + 1, &mut readers[i], shared, w);
-            shared = left;
-            match looked {
-                Ok(()) => {}
-                Err(fault) => return (shared, Err(fault)),
-            }
-            i += 1;
-        }
-        (shared, Ok(()))
-    }
-
+impl LookUps<'_> {
     /// Writes the records of the keys of some inputs, and what ends their text.
-    fn look_up_all<J: Feeds + Drop, I: Feeds, W: Sink>(
-        &mut self,
+    fn look_up_all<S: Store, L: Width, J: Feeds + Drop, I: Feeds, W: Sink>(
+        &self,
+        looking: &mut Looking<S, L>,
         inputs: Inputs<J, I>,
         w: &mut W,
     ) -> (Inputs<J, I>, Result<(), Fault>)
-        ensures leaves { LookupsLeave (task_of self.old) J.feed I.feed
-            (lookup_state inputs self.old.reader.store (W.contents w.old))
-            (lookup_state result.0 self.new.reader.store (W.contents w.new)) result.1 }
+        ensures leaves { LookupsLeave (lookup_task L.WORD L.GREATEST S.Store self.now.options) J.feed I.feed
+            (lookup_state inputs looking.old.reader.store (W.contents w.old))
+            (lookup_state result.0 looking.new.reader.store (W.contents w.new)) result.1 }
         ensures output { OutputSays (W.failed w.new) result.1 }
     {
-        let Inputs {
-            mut readers,
-            shared,
-        } = inputs;
-        self.missing = false;
-        let (window, looked) = self.look_up_readers(&mut readers, SharedWindow::Unread(shared), w);
-        let left = Inputs {
-            readers,
-            shared: window.into_reader(),
-        };
+        looking.missing = false;
+        let (left, looked) = do_inputs(self.context, self, looking, inputs, w);
         match looked {
             Ok(()) => {}
             Err(fault) => return (left, Err(fault)),
@@ -202,7 +68,7 @@ impl<'a, S: Store, L: Width> LookUps<'a, S, L> {
             Ok(()) => {}
             Err(_) => return (left, Err(Fault::Output)),
         }
-        if self.missing {
+        if looking.missing {
             (left, Err(Fault::Missing))
         } else {
             (left, Ok(()))
@@ -229,14 +95,15 @@ fn lookups_unflushed<L: Width, S: Store, J: Feeds + Drop, I: Feeds, W: Sink>(
         Ok(reader) => reader,
         Err(unread) => return (unread.store, inputs, Err(Fault::from(unread.fault))),
     };
-    let mut looking = LookUps {
-        alloc,
+    let mut looking = Looking {
         reader,
-        options,
         missing: false,
-        lines,
     };
-    let (left, answer) = looking.look_up_all(inputs, w);
+    let look_ups = LookUps {
+        context: InputContext { alloc, lines },
+        options,
+    };
+    let (left, answer) = look_ups.look_up_all(&mut looking, inputs, w);
     (looking.reader.into_store(), left, answer)
 }
 

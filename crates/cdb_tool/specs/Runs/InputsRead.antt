@@ -1,61 +1,28 @@
 -- What a run that makes a database read of its inputs, and what a parser makes of that.
-use Rattle.std.specs.Prelude.{ℕ, ◌≡◌, ◌+◌, List, length, Result, Ok, Err, ⊤, [], ◌∷◌, Option, IfErr, is_some}
+use Rattle.std.specs.Prelude.{Err, IfErr, IfSome, List, Ok, Option, Result, [], is_some, length, ℕ, ⊤, ◌+◌, ◌∷◌, ◌≡◌}
 use Rattle.std.proofs.Common.{ap}
 use Rattle.cdb_form.specs.Format.{AreBytes}
 use Rattle.cdb_form.specs.Text.Parse.{Change}
-use Rattle.cdb_form.specs.Text.Parse as text
-use Rattle.cdb_form.specs.Views.TextFault.{IsOfText}
 use Rattle.cdb_form.specs.declared.text.fault.TextFault.{TextFault}
-use Rattle.cdb_show.specs.Feed.{Parsed, Parsing, AreRead, SomeFailed, Stop, StopsSo, NoMore, HasFault, CutShort}
+use Rattle.cdb_show.specs.Feed.{AreRead, CutShort, HasFault, NoMore, NotBegun, Parsed, Parsing, SomeFailed, Stop, StopsSo}
 use Rattle.cdb_show.specs.Runs.Given.{input_parsed}
 use Rattle.cdb_show.specs.Runs.Inputs.{BeginsWithItems, HasFaults, HasItemFault, InputForm, IsInputOf, input_form}
 use Rattle.cdb_show.specs.declared.fault.Fault.{Fault}
 use Rattle.cdb_show.specs.declared.fault.Fault.TheVariants.{Text}
-use Rattle.cdb_show.specs.Runs.InputLaws.{text_begins, text_fails, text_input}
 use Rattle.cdb_store.specs.declared.store.Store.{Ghosts}
 use Rattle.cdb_form.specs.Views.Feed.{Consumes, Feed}
 use Rattle.cdb_form.specs.declared.text.fault.TextFault.TheVariants as text_fault
-use Rattle.cdb_show.specs.declared.input_reader.InputReader.{InputReader}
 use Rattle.cdb_make.specs.Views.Maker.{WhereHonest}
-use Rattle.cdb_show.specs.Runs.Parsing.{IsFaultOf}
+use Rattle.cdb_show.specs.Runs.Parsing.{IsFaultOf, IsOfRun, fault_in, stop_of, stopped_parsing}
 use Rattle.cdb_show.specs.Views.Noted.{ArePassed, shared_feed}
 use Rattle.cdb_show.specs.declared.inputs.Inputs.{Inputs}
 use Rattle.cdb_show.specs.declared.inputs.SharedWindow.{SharedWindow}
 use Rattle.cdb_show.specs.declared.inputs.SharedWindow.TheVariants.{Unread}
 use Rattle.cdb_tool.specs.Runs.Make.{MakeRuns, OfBase, Reading, Terms}
 
--- ---- What a parser of an input makes of its bytes, by the form of the inputs of a run.
-
--- an input has this fault of its text after these items
-pub record FailsSo (form : InputForm) (greatest : ℕ) (items : List Change) (fault : TextFault) (input : List ℕ)
-    : Type 0 where
-  pub has : HasItemFault form greatest items fault input
-  pub is : IsOfText fault
-  pub own : HasFaults form
-
--- in a run with this answer an input begins with these items: if its reader failed, it has that fault after them
-pub record BeginsSo (form : InputForm) (greatest : ℕ) (answer : Result Unit Fault) (items : List Change)
-    (input : List ℕ) : Type 0 where
-  pub begins : BeginsWithItems form greatest items input
-  pub has : (number : ℕ) (fault : TextFault) → answer ≡ Err (Text number fault)
-      → HasItemFault form greatest items fault input
-
-abbrev pub as_parsed : text.Parsed → Parsed Change TextFault
-as_parsed parsed = record { items = parsed.items; ends = parsed.ends }
-
+-- what a parser of an input makes of its bytes, in a run with this answer
 abbrev pub parsing : InputForm → (greatest : ℕ) → (answer : Result Unit Fault) → Parsing Change TextFault
-parsing form greatest answer = record {
-  parse = λ input. as_parsed (input_parsed form greatest input);
-  fits = AreBytes;
-  reads = IsInputOf form greatest;
-  fails = FailsSo form greatest;
-  begins = BeginsSo form greatest answer;
-  is_read = λ items input rest bytes reads.
-      let is = text_input form greatest items input rest bytes reads in (ap as_parsed is.0, is.1);
-  is_fault = λ items fault input bytes fails.
-      ap as_parsed (text_fails form greatest items input fault fails.own fails.is bytes fails.has);
-  is_begun = λ items input bytes begins. text_begins form greatest items input bytes begins.begins;
-}
+parsing form greatest answer = stopped_parsing form greatest (fault_in answer)
 
 -- ---- What a run read of its inputs, and what came of that.
 
@@ -69,19 +36,9 @@ pub record InputFeeds (J I : Type 0) : Type 1 where
 abbrev pub feeds_of : {J I : Type 0} → (own : J → Feed) → (shared : I → Feed) → InputFeeds J I
 feeds_of own shared = record { own = own; shared = shared }
 
--- why no more was read in a run with this fault, after these items of an input: it has a fault, or the run
--- stopped there
+-- why no more was read in a run with this fault, after these items of an input
 abbrev pub stop_by : Fault → List Change → Stop Change TextFault
-stop_by (Text number (text_fault.Syntax at)) last = HasFault last (text_fault.Syntax at)
-stop_by (Text number (text_fault.Ended at)) last = HasFault last (text_fault.Ended at)
-stop_by (Text number (text_fault.Large at)) last = HasFault last (text_fault.Large at)
-stop_by fault last = CutShort last
-
--- a run stopped so in an input
-abbrev pub StopsInput : {R S : Type 0} → InputFeeds R S → Parsing Change TextFault
-    → Stop Change TextFault → (before after : InputReader R) → (old new : S) → Type 0
-StopsInput feeds p stop before after old new =
-    StopsSo feeds.own feeds.shared p stop (before ∷ []) (after ∷ []) old new
+stop_by fault last = stop_of (fault_in (Err fault)) last
 
 -- The inputs of a run were read in turn, the first ones whole, with these items, and the readers of those that were not
 -- reached are as they were. What the window over the shared reader held was lost when the reader was returned.

@@ -28,7 +28,8 @@ use Rattle.cdb_form.specs.Views.TextFault.{IsOfText, IsReadFault, LastRead}
 use Rattle.cdb_form.specs.declared.text.fault.TextFault.{TextFault}
 use Rattle.cdb_form.specs.declared.text.fault.TextFault.TheVariants as text_fault
 use Rattle.cdb_show.specs.Feed.{CutShort, HasFault, NotBegun, Stop}
-use Rattle.cdb_show.specs.Runs.Inputs.{HasFaultBehind}
+use Rattle.cdb_show.specs.Runs.Inputs.{HasFaultBehind, HasItemFault, InputForm, input_form}
+use Rattle.cdb_show.specs.Runs.InputTask.{Progress, Work}
 use Rattle.cdb_show.specs.Runs.Parsing.{IsOfRun}
 use Rattle.cdb_show.specs.Views.Output.{OutputSays}
 use Rattle.cdb_form.specs.Text.Native.{Spells, Spelled, Reads}
@@ -310,23 +311,14 @@ pub record InCourse {S L : Type 0} {s : Ghosts S} {l : Widths L} (t : Task)
   pub limit : limit_of m ≡ t.options.make.limit
   pub goes : WhereHonest (s.image m.store) (Goes l.WORD t cs old new)
 
--- how far a run has come: the lines that were reported, if they are known, and the maker
-pub record Progress {S L : Type 0} (s : Ghosts S) (l : Widths L) : Type 0 where
-  pub lines : Option (List ℕ)
-  pub maker : Maker S L s l
-
-abbrev pub progress : {S L : Type 0} {s : Ghosts S} {l : Widths L} → Option (List ℕ)
-    → Maker S L s l → Progress s l
-progress lines maker = record { lines = lines; maker = maker }
-
--- it has come so far with these items
+-- a run has come so far with these items, by its maker and the lines that were reported
 abbrev pub HasCome : {S L : Type 0} {s : Ghosts S} {l : Widths L} → Task → List Incoming
-    → (start : Option (List ℕ)) → Progress s l → Type 0
-HasCome t cs start now = InCourse t cs start now.lines now.maker
+    → (start : Option (List ℕ)) → Progress (Maker S L s l) → Type 0
+HasCome t cs start now = InCourse t cs start now.output now.state
 
 -- the items of an input of this number were done, after those of the inputs that were read
 abbrev pub PutsItems : {S L : Type 0} {s : Ghosts S} {l : Widths L} → RunOptions → (number : ℕ)
-    → List Change → (old new : Progress s l) → Type 0
+    → List Change → (old new : Progress (Maker S L s l)) → Type 0
 PutsItems o number last old new =
     (t : Task) (read : List (List Change)) (start : Option (List ℕ)) → t.options ≡ o
     → number ≡ length read + 1 → HasCome t (from_inputs 1 read) start old
@@ -370,11 +362,11 @@ pub record ItemDone {S L : Type 0} {s : Ghosts S} {l : Widths L} (t : Task) (cs 
 
 -- an item of these numbers leaves so each run that has these options and came to it
 abbrev pub DoesItem : {S L : Type 0} {s : Ghosts S} {l : Widths L} → RunOptions → (input number : ℕ)
-    → Change → (old new : Progress s l) → Result Unit Fault → Type 0
+    → Change → (old new : Progress (Maker S L s l)) → Result Unit Fault → Type 0
 DoesItem o input number it old new result =
     (t : Task) (cs : List Incoming) (start : Option (List ℕ)) → t.options ≡ o
     → HasCome t cs start old
-    → ItemDone t cs (record { input = input; number = number; it = it }) start new.lines new.maker result
+    → ItemDone t cs (record { input = input; number = number; it = it }) start new.output new.state result
 
 -- a fault of a run that is none of an input
 abbrev pub IsOfMaking : Fault → Type 0
@@ -389,25 +381,25 @@ pub record StoppedAt {S L : Type 0} {s : Ghosts S} {l : Widths L} (t : Task) (cs
 
 -- it stopped after these items of an input of this number, which follow those of the inputs that were read
 abbrev pub PutsStop : {S L : Type 0} {s : Ghosts S} {l : Widths L} → RunOptions → (number : ℕ)
-    → List Change → (old new : Progress s l) → Fault → Type 0
+    → List Change → (old new : Progress (Maker S L s l)) → Fault → Type 0
 PutsStop o number last old new fault =
     (t : Task) (read : List (List Change)) (start : Option (List ℕ)) → t.options ≡ o
     → number ≡ length read + 1 → HasCome t (from_inputs 1 read) start old
-    → StoppedAt t (came read last) start new.lines new.maker fault
+    → StoppedAt t (came read last) start new.output new.state fault
 
 -- the items of the first inputs were done; and then the run stopped, after these items of the next one
 abbrev pub PutsInputs : {S L : Type 0} {s : Ghosts S} {l : Widths L} → RunOptions
-    → (read : List (List Change)) → (old new : Progress s l) → Type 0
+    → (read : List (List Change)) → (old new : Progress (Maker S L s l)) → Type 0
 PutsInputs o read old new =
     (t : Task) (start : Option (List ℕ)) → t.options ≡ o → HasCome t [] start old
     → HasCome t (from_inputs 1 read) start new
 
 abbrev pub PutsInputsStop : {S L : Type 0} {s : Ghosts S} {l : Widths L} → RunOptions
-    → (read : List (List Change)) → (last : List Change) → (old new : Progress s l) → Fault
+    → (read : List (List Change)) → (last : List Change) → (old new : Progress (Maker S L s l)) → Fault
     → Type 0
 PutsInputsStop o read last old new fault =
     (t : Task) (start : Option (List ℕ)) → t.options ≡ o → HasCome t [] start old
-    → StoppedAt t (came read last) start new.lines new.maker fault
+    → StoppedAt t (came read last) start new.output new.state fault
 
 -- ---- the base, amid a run
 
@@ -426,6 +418,28 @@ pub record StepsOn {S L A : Type 0} {s : Ghosts S} {l : Widths L} (old new : Mak
   pub fine : OnOk result (s.failures new.store ≡ s.failures old.store)
   pub base : IfErr result (λ f. IsOfBase f → unread)
   pub output : OutputSays unsaid result
+
+-- the items of an input of this number were done, each by a step
+pub record DoesItems {S L : Type 0} {s : Ghosts S} {l : Widths L} (o : RunOptions) (number : ℕ)
+    (items : List Change) (old new : Progress (Maker S L s l)) : Type 0 where
+  pub puts : PutsItems o number items old new
+  pub step : StepsOn {A = Unit} old.state new.state ⊥ ⊥ (Ok tt)
+
+-- and the run stopped after these, or with the last one
+pub record StopsItems {S L : Type 0} {s : Ghosts S} {l : Widths L} (o : RunOptions) (number : ℕ)
+    (items : List Change) (old new : Progress (Maker S L s l)) (fault : Fault) : Type 0 where
+  pub stops : PutsStop o number items old new fault
+  pub step : StepsOn {A = Unit} old.state new.state ⊥ ⊤ (Err fault)
+
+-- what is done with the inputs. With amends, native ones may remove keys
+abbrev pub put_work : {S L : Type 0} {s : Ghosts S} {l : Widths L} → RunOptions → (amends : Bool)
+    → Work (Maker S L s l)
+put_work {l = l} o amends = record {
+  form = input_form o.make.style amends;
+  greatest = l.GREATEST;
+  does = DoesItems o;
+  stops = StopsItems o;
+}
 
 -- a maker holds the records of each image of a base, whose walk has no damage
 pub record AddsBase {S L : Type 0} {s : Ghosts S} {l : Widths L} (w : ℕ) (images : List ℕ → Type 0)

@@ -1,5 +1,5 @@
 // A database made of the records of a base, if there is one, and of what some inputs say.
-ghost use Rattle.std.specs.Prelude.{◌≡◌, ◌+◌, ◌<◌, ◌≤◌, ℕ, List, [], map, Option, Some, is_some, Result, Ok, Err, length, IfErr, OnOk};
+ghost use Rattle.std.specs.Prelude.{Err, IfErr, List, Ok, OnOk, Option, Result, Some, [], is_some, length, map, ℕ, ◌+◌, ◌<◌, ◌≡◌, ◌≤◌};
 ghost use Rattle.std.specs.Borrow.{Bor};
 ghost use Rattle.cdb_form.specs.Views.Feed.{FromTo, reader_feed};
 ghost use Rattle.cdb_form.specs.Format.{head_size};
@@ -7,183 +7,26 @@ ghost use Rattle.cdb_form.specs.Text.Parse.{Change};
 ghost use Rattle.cdb_show.specs.Feed.{AreRead, NoMore, ReaderFailed, SomeFailed, TakesOne};
 ghost use Rattle.cdb_show.specs.Runs.Inputs.{IsInputOf, input_form};
 ghost use Rattle.cdb_show.specs.Runs.Lookups.{StopsBehind};
+ghost use Rattle.cdb_make.specs.Views.Maker.{WhereHonest};
+ghost use Rattle.cdb_show.specs.Runs.InputTask.{progress};
 ghost use Rattle.cdb_show.specs.Runs.Parsing.{IsFaultOf};
-ghost use Rattle.cdb_show.specs.Views.Noted.{ArePassed, shared_feed};
 ghost use Rattle.cdb_show.specs.Views.Output.{OutputSays};
-ghost use Rattle.cdb_show.specs.Views.Window.{feed_of};
 ghost use Rattle.cdb_show.specs.declared.fault.Fault.TheVariants.{NoMemory};
 ghost use Rattle.cdb_show.specs.declared.input_reader.InputReader.TheVariants.{Own};
-ghost use Rattle.cdb_tool.specs.Runs.Make.{plain, StepsOn, IsOfStore, IsOfBase, HandsBack, BaseHasFailed, PutsInputs, PutsInputsStop, PutsItems, PutsStop, progress, terms_of};
-ghost use Rattle.cdb_tool.specs.Runs.InputsRead.{parsing, RunsRead, StopsInput, WereRead, feeds_of, run_state, stop_by};
+ghost use Rattle.cdb_tool.specs.Runs.Make.{BaseHasFailed, HandsBack, IsOfBase, IsOfStore, MakeRuns, OfBase, PutsInputs, PutsInputsStop, StepsOn, plain, terms_of};
+ghost use Rattle.cdb_tool.specs.Runs.InputsRead.{RunsRead, WereRead, feeds_of, parsing, run_state, stop_by};
 
 use crate::runs::context::RunContext;
 use crate::runs::make_base::add_base;
-use crate::runs::make_input::{Turn, put_input};
+use crate::runs::make_input::Puts;
 use crate::runs::options::RunOptions;
 use cdb_command::MakeOptions;
 use cdb_form::{Feeds, Sink, Width};
 use cdb_make::Maker;
-use cdb_show::{
-    Fault, InLined, InWindow, InputReader, Inputs, ItemReader, Lined, Lines, SharedWindow, Window,
-    flushed,
-};
+use cdb_show::{Fault, InputContext, Inputs, Lines, do_inputs, flushed};
 use cdb_store::Store;
 use std::alloc::Global;
 use std::io::Read;
-use std::mem::replace;
-
-/// Does what the rest of an input says, and returns its window, which goes on after the text. The
-/// lines are counted if duplicates are explained.
-fn put_text<L: Width, S: Store, F: Feeds + Drop, E: Sink>(
-    alloc: Global,
-    maker: &mut Maker<S, L>,
-    turn: Turn<'_>,
-    window: Window<F>,
-    errors: &mut E,
-) -> (Window<F>, Result<(), Fault>)
-    ensures ok { OnOk result.1 ((last : List Change)
-        × FromTo (feed_of F.feed window) (feed_of F.feed result.0)
-        (IsInputOf (input_form turn.entry.run.options.make.style turn.entry.amends) L.GREATEST last)
-        × PutsItems turn.entry.run.options turn.entry.number last
-        (progress (E.contents errors.old) maker.old)
-        (progress (E.contents errors.new) maker.new)) }
-    ensures fails { IfErr result.1 (λ fault. (last : List Change)
-        × StopsBehind (input_form turn.entry.run.options.make.style turn.entry.amends) L.GREATEST
-        turn.entry.number last (feed_of F.feed window) (feed_of F.feed result.0) fault
-        × PutsStop turn.entry.run.options turn.entry.number last
-        (progress (E.contents errors.old) maker.old)
-        (progress (E.contents errors.new) maker.new) fault) }
-    ensures step { StepsOn maker.old maker.new ⊥ (E.failed errors.new) result.1 }
-{
-    if turn.run.options.names.is_some() {
-        let lined = Lined::new(window, turn.run.lines);
-        let mut items = ItemReader::new(alloc, turn.run.options.make.style, turn.amends, lined);
-        let put = put_input::<L, S, _, E, InLined>(alloc, maker, turn, &mut items, errors);
-        return (items.into_reader().into_window(), put);
-    }
-    let mut items = ItemReader::new(alloc, turn.run.options.make.style, turn.amends, window);
-    let put = put_input::<L, S, _, E, InWindow>(alloc, maker, turn, &mut items, errors);
-    (items.into_reader(), put)
-}
-
-/// Does what an input says, and returns the reader that the inputs share. The input keeps its
-/// reader; what a window took of it past the text is lost.
-fn put_turn<L: Width, S: Store, J: Feeds + Drop, I: Feeds + Drop, E: Sink>(
-    alloc: Global,
-    maker: &mut Maker<S, L>,
-    turn: Turn<'_>,
-    input: &mut InputReader<J>,
-    shared: SharedWindow<I>,
-    errors: &mut E,
-) -> (SharedWindow<I>, Result<(), Fault>)
-    ensures ok { OnOk result.1 ((last : List Change)
-        × TakesOne J.feed (shared_feed I.feed)
-        (IsInputOf (input_form turn.entry.run.options.make.style turn.entry.amends) L.GREATEST last)
-        input.old input.new shared result.0
-        × PutsItems turn.entry.run.options turn.entry.number last
-        (progress (E.contents errors.old) maker.old)
-        (progress (E.contents errors.new) maker.new)) }
-    ensures fails { IfErr result.1 (λ fault. (last : List Change)
-        × StopsInput (feeds_of J.feed (shared_feed I.feed))
-        (parsing (input_form turn.entry.run.options.make.style turn.entry.amends) L.GREATEST
-        (Err fault)) (stop_by fault last) input.old input.new shared result.0
-        × IsFaultOf (input_form turn.entry.run.options.make.style turn.entry.amends)
-        turn.entry.number (ReaderFailed J.feed (shared_feed I.feed) input.new result.0) fault
-        × PutsStop turn.entry.run.options turn.entry.number last
-        (progress (E.contents errors.old) maker.old)
-        (progress (E.contents errors.new) maker.new) fault) }
-    ensures step { StepsOn maker.old maker.new ⊥ (E.failed errors.new) result.1 }
-{
-    match replace(input, InputReader::Shared) {
-        InputReader::Own(reader) => {
-            turn.run.lines.begin(false);
-            let window = match Window::growing(alloc, reader) {
-                Ok(window) => window,
-                Err(refused) => {
-                    *input = InputReader::Own(refused.reader);
-                    return (shared, Err(Fault::NoMemory));
-                }
-            };
-            let (window, put) = put_text(alloc, maker, turn, window, errors);
-            *input = InputReader::Own(window.into_reader());
-            (shared, put)
-        }
-        InputReader::Shared => {
-            turn.run.lines.begin(true);
-            let window = match shared.in_hand(alloc) {
-                Ok(window) => window,
-                Err(refused) => {
-                    return (SharedWindow::Unread(refused.reader), Err(Fault::NoMemory));
-                }
-            };
-            let (window, put) = put_text(alloc, maker, turn, window, errors);
-            (SharedWindow::InHand(window), put)
-        }
-    }
-}
-
-/// The options of all inputs of a run.
-#[derive(Clone, Copy)]
-struct Turns<'a> {
-    /// The context of the run.
-    run: RunContext<'a>,
-    /// True if native inputs may remove keys.
-    amends: bool,
-}
-
-/// Does what some inputs say, one after the other, and returns the reader that they share.
-fn put_turns<L: Width, S: Store, J: Feeds + Drop, I: Feeds + Drop, E: Sink>(
-    alloc: Global,
-    maker: &mut Maker<S, L>,
-    turns: Turns<'_>,
-    readers: &mut [InputReader<J>],
-    shared: SharedWindow<I>,
-    errors: &mut E,
-) -> (SharedWindow<I>, Result<(), Fault>)
-    ensures ok { OnOk result.1 ((read : List (List Change))
-        × AreRead J.feed (shared_feed I.feed)
-        (parsing (input_form turns.entry.run.options.make.style turns.entry.amends)
-        L.GREATEST (Ok tt)) read NoMore readers.old readers.new shared result.0
-        × PutsInputs turns.entry.run.options read
-        (progress (E.contents errors.old) maker.old)
-        (progress (E.contents errors.new) maker.new)) }
-    ensures fails { IfErr result.1 (λ fault. (read : List (List Change)) × (last : List Change)
-        × AreRead J.feed (shared_feed I.feed)
-        (parsing (input_form turns.entry.run.options.make.style turns.entry.amends)
-        L.GREATEST (Err fault)) read (stop_by fault last) readers.old readers.new shared result.0
-        × ArePassed read (stop_by fault last) readers.old readers.new
-        × IsFaultOf (input_form turns.entry.run.options.make.style turns.entry.amends)
-        (length read + 1) (SomeFailed J.feed (shared_feed I.feed) readers.new result.0) fault
-        × PutsInputsStop turns.entry.run.options read last
-        (progress (E.contents errors.old) maker.old)
-        (progress (E.contents errors.new) maker.new) fault) }
-    ensures step { StepsOn maker.old maker.new ⊥ (E.failed errors.new) result.1 }
-{
-    let mut shared = shared;
-    let mut i = 0;
-    while i < readers.len() {
-        let number = i as u64 + 1;
-        let turn = Turn {
-            run: turns.run,
-            amends: turns.amends,
-            number,
-        };
-        let (left, put) = put_turn::<L, S, J, I, E>(
-            alloc,
-            maker,
-            turn,
-            &mut readers[i],
-            shared,
-            errors,
-        );
-        shared = left;
-        if let Err(fault) = put {
-            return (shared, Err(fault));
-        }
-        i += 1;
-    }
-    (shared, Ok(()))
-}
 
 /// Does what some inputs say, one after the other, to a maker that its caller keeps: what
 /// `make_run` does between the base and the finish. With `amends`, native inputs may remove keys.
@@ -221,23 +64,16 @@ pub fn put_inputs<L: Width, S: Store, J: Feeds + Drop, I: Feeds + Drop, E: Sink>
         (progress (E.contents errors.new) maker.new) fault) }
     ensures step { StepsOn maker.old maker.new ⊥ (E.failed errors.new) result.1 }
 {
-    let Inputs {
-        mut readers,
-        shared,
-    } = inputs;
-    let (shared, put) = put_turns::<L, S, J, I, E>(
+    let context = InputContext {
         alloc,
-        maker,
-        Turns { run, amends },
-        &mut readers,
-        SharedWindow::Unread(shared),
-        errors,
-    );
-    let inputs = Inputs {
-        readers,
-        shared: shared.into_reader(),
+        lines: run.lines,
     };
-    (inputs, put)
+    let puts = Puts {
+        context,
+        options: run.options,
+        amends,
+    };
+    do_inputs(context, &puts, maker, inputs, errors)
 }
 
 /// The store, the base and the inputs that a run returns, and its answer.

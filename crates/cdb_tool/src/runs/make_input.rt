@@ -7,22 +7,24 @@ ghost use Rattle.cdb_form.specs.Views.Pairs.{change_in};
 ghost use Rattle.cdb_make.specs.Views.Maker.{Follows, WhereHonest, store_of};
 ghost use Rattle.cdb_show.specs.Message.{TellsEach, TellsPart};
 ghost use Rattle.cdb_show.specs.Runs.Incoming.{Incoming, from_inputs};
+ghost use Rattle.cdb_show.specs.Runs.InputTask.{progress};
 ghost use Rattle.cdb_show.specs.Runs.Inputs.{IsInputOf};
 ghost use Rattle.cdb_show.specs.Runs.Lookups.{StopsBehind};
 ghost use Rattle.cdb_show.specs.Views.ItemReader.{form_of, reader_of, IsNew};
 ghost use Rattle.cdb_show.specs.Views.Output.{OutputSays};
 ghost use Rattle.cdb_show.specs.declared.fault.Fault.TheVariants.{NoMemory};
-ghost use Rattle.cdb_tool.specs.Runs.Make.{mode_of, meets_key, put_at, told, StopsSo, Task, ends, TellFails, DoesItem, InCourse, StepsOn, IsOfStore, IsOfBase, IsHalt, IsOfMaking, PutsItems, PutsStop, progress};
+ghost use Rattle.cdb_tool.specs.Runs.Make.{mode_of, meets_key, put_at, told, StopsSo, Task, ends, TellFails, DoesItem, InCourse, StepsOn, IsOfStore, IsOfBase, IsHalt, IsOfMaking, DoesItems, StopsItems};
 ghost use Rattle.cdb_tool.specs.declared.runs.options.RunOptions.{RunOptions};
 
-use crate::runs::context::RunContext;
 use crate::runs::options::RunOptions;
 use cdb_command::{MakeOptions, Style};
 use cdb_form::{AtHand, Feeds, ItemKind, OutFault, Record, Sink, Width};
 use cdb_make::{Maker, Mode, Put};
-use cdb_show::{Fault, ItemReader, Lines, write_duplicates};
+use cdb_show::{
+    Fault, InLined, InWindow, InputContext, InputTask, ItemReader, Lined, Lines, Window,
+    write_duplicates,
+};
 use cdb_store::Store;
-use std::alloc::Global;
 
 /// Returns the mode of each put.
 fn put_mode(options: &MakeOptions) -> Mode
@@ -52,15 +54,15 @@ fn meets_key(put: Put) -> bool
     }
 }
 
-/// An input of a run, and how its items are done.
+/// How a run does what its inputs say.
 #[derive(Clone, Copy)]
-pub(crate) struct Turn<'a> {
+pub(crate) struct Puts<'a> {
+    /// The context of the inputs.
+    pub(crate) context: InputContext<'a>,
     /// The options of the run.
-    pub(crate) run: RunContext<'a>,
+    pub(crate) options: RunOptions<'a>,
     /// True if native inputs may remove keys.
     pub(crate) amends: bool,
-    /// The number of the input, counted from 1.
-    pub(crate) number: u64,
 }
 
 /// An item of an input, as a run meets it.
@@ -191,59 +193,89 @@ fn line_of_last(style: Style, next: u64, lines: &Lines) -> u64 {
     }
 }
 
-/// Does what the items of an input say, up to the end of its text. `turn.run.lines` may count the
-/// lines of the reader.
-pub(crate) fn put_input<L: Width, S: Store, F: Feeds, E: Sink, A: AtHand<F>>(
-    alloc: Global,
-    maker: &mut Maker<S, L>,
-    turn: Turn<'_>,
-    items: &mut ItemReader<F, L>,
-    errors: &mut E,
-) -> Result<(), Fault>
-    requires fresh { IsNew items.old }
-    ensures ok { OnOk result ((last : List Change)
-        × FromTo (F.feed (reader_of items.old)) (F.feed (reader_of items.new))
-        (IsInputOf (form_of items.old) L.GREATEST last)
-        × PutsItems turn.entry.run.options turn.entry.number last
-        (progress (E.contents errors.old) maker.old)
-        (progress (E.contents errors.new) maker.new)) }
-    ensures fails { IfErr result (λ fault. (last : List Change)
-        × StopsBehind (form_of items.old) L.GREATEST turn.entry.number last
-        (F.feed (reader_of items.old)) (F.feed (reader_of items.new)) fault
-        × PutsStop turn.entry.run.options turn.entry.number last
-        (progress (E.contents errors.old) maker.old)
-        (progress (E.contents errors.new) maker.new) fault) }
-    ensures step { StepsOn maker.old maker.new ⊥ (E.failed errors.new) result }
-{
-    let mut item = Record {
-        key: Vec::new(alloc),
-        value: Vec::new(alloc),
-    };
-    let mode = put_mode(&turn.run.options.make);
-    let mut number = 0;
-    loop {
-        number += 1;
-        let next = turn.run.lines.next();
-        let met = Met {
-            options: &turn.run.options,
-            mode,
-            input: turn.number,
-            number,
-            line: next,
+impl Puts<'_> {
+    /// Does what the items of an input say, whose number is counted from 1, up to the end of its
+    /// text. `context.lines` may count the lines of the reader.
+    pub(crate) fn put_input<L: Width, S: Store, F: Feeds, E: Sink, A: AtHand<F>>(
+        &self,
+        maker: &mut Maker<S, L>,
+        input: u64,
+        items: &mut ItemReader<F, L>,
+        errors: &mut E,
+    ) -> Result<(), Fault>
+        requires fresh { IsNew items.old }
+        ensures ok { OnOk result ((last : List Change)
+            × FromTo (F.feed (reader_of items.old)) (F.feed (reader_of items.new))
+            (IsInputOf (form_of items.old) L.GREATEST last)
+            × DoesItems self.now.options input last
+            (progress (E.contents errors.old) maker.old)
+            (progress (E.contents errors.new) maker.new)) }
+        ensures fails { IfErr result (λ fault. (last : List Change)
+            × StopsBehind (form_of items.old) L.GREATEST input last
+            (F.feed (reader_of items.old)) (F.feed (reader_of items.new)) fault
+            × StopsItems self.now.options input last
+            (progress (E.contents errors.old) maker.old)
+            (progress (E.contents errors.new) maker.new) fault) }
+        ensures output { OutputSays (E.failed errors.new) result }
+    {
+        let InputContext { alloc, lines } = self.context;
+        let mut item = Record {
+            key: Vec::new(alloc),
+            value: Vec::new(alloc),
         };
-        if let Some(peeked) = items.peek::<A>() {
-            let len = peeked.len;
-            let put = put_record(maker, met, peeked.key, peeked.value, errors);
-            items.take_peeked::<A>(len);
-            put?;
-        } else {
-            let kind = match items.read_into::<A>(&mut item) {
-                Err(fault) => return Err(Fault::of_text(turn.number, fault)),
-                Ok(None) => return Ok(()),
-                Ok(Some(kind)) => kind,
+        let mode = put_mode(&self.options.make);
+        let mut number = 0;
+        loop {
+            number += 1;
+            let next = lines.next();
+            let met = Met {
+                options: &self.options,
+                mode,
+                input,
+                number,
+                line: next,
             };
-            let line = line_of_last(turn.run.options.make.style, next, turn.run.lines);
-            do_item(maker, Met { line, ..met }, kind, &item, errors)?;
+            if let Some(peeked) = items.peek::<A>() {
+                let len = peeked.len;
+                let put = put_record(maker, met, peeked.key, peeked.value, errors);
+                items.take_peeked::<A>(len);
+                put?;
+            } else {
+                let kind = match items.read_into::<A>(&mut item) {
+                    Err(fault) => return Err(Fault::of_text(input, fault)),
+                    Ok(None) => return Ok(()),
+                    Ok(Some(kind)) => kind,
+                };
+                let line = line_of_last(self.options.make.style, next, lines);
+                do_item(maker, Met { line, ..met }, kind, &item, errors)?;
+            }
         }
+    }
+}
+
+impl<S: Store, L: Width, E: Sink> InputTask<Maker<S, L>, E> for Puts<'_> {
+    ghost use Rattle.cdb_tool.specs.Runs.Make.{put_work};
+
+    ghost work = { λ puts. put_work puts.options puts.amends };
+
+    /// The lines are counted if duplicates are explained.
+    fn do_text<F: Feeds>(
+        &self,
+        maker: &mut Maker<S, L>,
+        input: u64,
+        window: Window<F>,
+        errors: &mut E,
+    ) -> (Window<F>, Result<(), Fault>) {
+        let InputContext { alloc, lines } = self.context;
+        let style = self.options.make.style;
+        if self.options.names.is_some() {
+            let lined = Lined::new(window, lines);
+            let mut items = ItemReader::new(alloc, style, self.amends, lined);
+            let put = self.put_input::<L, S, _, E, InLined>(maker, input, &mut items, errors);
+            return (items.into_reader().into_window(), put);
+        }
+        let mut items = ItemReader::new(alloc, style, self.amends, window);
+        let put = self.put_input::<L, S, _, E, InWindow>(maker, input, &mut items, errors);
+        (items.into_reader(), put)
     }
 }

@@ -59,7 +59,7 @@ pub returns-in_err-add_next-clause-step : goal.returns-in_err-add_next-clause-st
 returns-in_err-add_next-clause-step g c =
     let p = err_from_is_err_and c.from_residual-in_err-add_next.result c.from_residual-in_err-add_next.ensures.1 in
     let inv = c.loop-room.invariant in
-    rw (p.1, p.2) (step_failed c.in_err-add_next.field-0.0 inv.follows inv.fine (λ is. search (rules, arith, is, inv.reads.failures)) c.in_err-add_next.ensures.step)
+    rw (p.1, p.2) (step_failed c.in_err-add_next.field-0.0 inv.follows inv.fine (λ is. search (rules, arith, is, inv.reads.failures)) (λ is. is) c.in_err-add_next.ensures.step)
 
 pub returns-clause-step : goal.returns-clause-step
 returns-clause-step g c =

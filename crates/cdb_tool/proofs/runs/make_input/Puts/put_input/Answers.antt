@@ -5,8 +5,8 @@ use Rattle.cdb_show.proofs.ItemInputs.{items_all, items_fewer, items_form, items
 use Rattle.cdb_tool.proofs.Courses.{came_more}
 use Rattle.cdb_tool.proofs.InputRuns.{item_stopped, item_stops, last_by, text_stopped, text_stops}
 use Rattle.cdb_tool.proofs.InputRuns.{none_put}
-use Rattle.cdb_tool.proofs.MakerSteps.{step_failed}
-use Rattle.cdb_tool.proofs.runs.make_input.put_input.Goals as goal
+use Rattle.cdb_tool.proofs.MakerSteps.{step_failed, step_text}
+use Rattle.cdb_tool.proofs.runs.make_input.Puts.put_input.Goals as goal
 
 pub loop-peeked-init : goal.loop-peeked-init
 loop-peeked-init g c = record {
@@ -25,8 +25,11 @@ returns-in-Err-clause-fails g c =
     let inv = c.loop-peeked.invariant in
     rw c.of_text.ensures (
       inv.last,
-      text_stops g.L.Width.GREATEST g.F.Feeds.feed c.args.turn.number _ c.loop-peeked.items c.read_into.new.self (form_of c.args.items.now) inv.last c.in-Err.fault (λ it. g.met.F.Feeds.one_rest it) inv.form inv.gave c.in-Err.ensures.fails,
-      λ t read start o n h. text_stopped {s = g.S.Store} {l = g.L.Width} t _ start _ c.loop-peeked.maker c.args.turn.number c.in-Err.fault (inv.course t read start o n h),
+      text_stops g.L.Width.GREATEST g.F.Feeds.feed c.args.input _ c.loop-peeked.items c.read_into.new.self (form_of c.args.items.now) inv.last c.in-Err.fault (λ it. g.met.F.Feeds.one_rest it) inv.form inv.gave c.in-Err.ensures.fails,
+      record {
+        stops = λ t read start o n h. text_stopped {s = g.S.Store} {l = g.L.Width} t _ start _ c.loop-peeked.maker c.args.input c.in-Err.fault (inv.course t read start o n h);
+        step = step_text c.args.input c.in-Err.fault inv.follows inv.fine;
+      },
     )
 
 pub returns-in-Ok-None-clause-ok : goal.returns-in-Ok-None-clause-ok
@@ -38,7 +41,7 @@ returns-in-Ok-None-clause-ok g c =
     let input = feed (reader_of c.args.items.now) in
     let new = c.read_into.new.self in
     let all = items_all greatest feed input c.loop-peeked.items new inv.last inv.gave end in
-    (inv.last, subst (λ v. FromTo input (feed (reader_of new)) (IsInputOf v greatest inv.last)) inv.form all, inv.course)
+    (inv.last, subst (λ v. FromTo input (feed (reader_of new)) (IsInputOf v greatest inv.last)) inv.form all, record { puts = inv.course; step = record { follows = inv.follows; failed = tt; memory = tt; fine = inv.fine; base = tt; output = tt } })
 
 pub loop-peeked-preserved : goal.loop-peeked-preserved
 loop-peeked-preserved g c =
@@ -57,7 +60,7 @@ loop-peeked-preserved g c =
       asks = omega (arith, inv.asks, items_fewer greatest feed old new item one);
       course = λ t read start o n h.
           subst (λ cs. InCourse {s = g.S.Store} {l = g.L.Width} t cs start (g.E.Sink.contents c.do_item.new.errors) c.do_item.new.maker)
-          (sym (came_more c.args.turn.number (c.loop-peeked.number + 1) read inv.last item n (ap (λ (n : ℕ). n + 1) inv.number)))
+          (sym (came_more c.args.input (c.loop-peeked.number + 1) read inv.last item n (ap (λ (n : ℕ). n + 1) inv.number)))
           (c.in_ok-do_item.ensures.does t _ start o (inv.course t read start o n h)).ok;
       follows = follows_then _ _ _ inv.follows c.do_item.ensures.step.follows;
       fine = c.in_ok-do_item.ensures.step.fine ∙ inv.fine;
@@ -80,7 +83,7 @@ loop-peeked-preserved-in-Continue-1 g c =
       asks = omega (arith, inv.asks, items_fewer greatest feed old new item one);
       course = λ t read start o n h.
           subst (λ cs. InCourse {s = g.S.Store} {l = g.L.Width} t cs start (g.E.Sink.contents c.put_record-put.new.errors) c.put_record-put.new.maker)
-          (sym (came_more c.args.turn.number (c.loop-peeked.number + 1) read inv.last item n (ap (λ (n : ℕ). n + 1) inv.number)))
+          (sym (came_more c.args.input (c.loop-peeked.number + 1) read inv.last item n (ap (λ (n : ℕ). n + 1) inv.number)))
           (c.in_ok-put.ensures.does t _ start o (inv.course t read start o n h)).ok;
       follows = follows_then _ _ _ inv.follows c.put_record-put.ensures.step.follows;
       fine = c.in_ok-put.ensures.step.fine ∙ inv.fine;
@@ -95,11 +98,14 @@ returns-in_err-do_item-clause-fails g c =
     let fault = c.in_err-do_item.field-0.0 in
     rw (p.1, p.2) (
       last_by fault inv.last item,
-      item_stops g.L.Width.GREATEST g.F.Feeds.feed c.args.turn.number _ c.loop-peeked.items c.read_into.new.self (form_of c.args.items.now) inv.last item fault inv.form inv.gave one c.in_err-do_item.ensures.own,
-      λ t read start o n h.
-          let course = inv.course t read start o n h in
-          item_stopped {s = g.S.Store} {l = g.L.Width} t read inv.last (record { input = c.args.turn.number; number = c.loop-peeked.number + 1; it = item }) start _ _ c.loop-peeked.maker c.do_item.new.maker n (ap (λ (n : ℕ). n + 1) inv.number) c.do_item.ensures.step.follows.comes fault course
-          (c.in_err-do_item.ensures.does t _ start o course),
+      item_stops g.L.Width.GREATEST g.F.Feeds.feed c.args.input _ c.loop-peeked.items c.read_into.new.self (form_of c.args.items.now) inv.last item fault inv.form inv.gave one c.in_err-do_item.ensures.own,
+      record {
+        stops = λ t read start o n h.
+            let course = inv.course t read start o n h in
+            item_stopped {s = g.S.Store} {l = g.L.Width} t read inv.last (record { input = c.args.input; number = c.loop-peeked.number + 1; it = item }) start _ _ c.loop-peeked.maker c.do_item.new.maker n (ap (λ (n : ℕ). n + 1) inv.number) c.do_item.ensures.step.follows.comes fault course
+            (c.in_err-do_item.ensures.does t _ start o course);
+        step = step_failed fault inv.follows inv.fine (λ is. is) (λ is. tt) c.in_err-do_item.ensures.step;
+      },
     )
 
 pub returns-in_err-put-clause-fails : goal.returns-in_err-put-clause-fails
@@ -111,11 +117,14 @@ returns-in_err-put-clause-fails g c =
     let fault = c.in_err-put.field-0.0 in
     rw (p.1, p.2) (
       last_by fault inv.last item,
-      item_stops g.L.Width.GREATEST g.F.Feeds.feed c.args.turn.number _ c.loop-peeked.items c.take_peeked.new.self (form_of c.args.items.now) inv.last item fault inv.form inv.gave one c.in_err-put.ensures.own,
-      λ t read start o n h.
-          let course = inv.course t read start o n h in
-          item_stopped {s = g.S.Store} {l = g.L.Width} t read inv.last (record { input = c.args.turn.number; number = c.loop-peeked.number + 1; it = item }) start _ _ c.loop-peeked.maker c.put_record-put.new.maker n (ap (λ (n : ℕ). n + 1) inv.number) c.put_record-put.ensures.step.follows.comes fault course
-          (c.in_err-put.ensures.does t _ start o course),
+      item_stops g.L.Width.GREATEST g.F.Feeds.feed c.args.input _ c.loop-peeked.items c.take_peeked.new.self (form_of c.args.items.now) inv.last item fault inv.form inv.gave one c.in_err-put.ensures.own,
+      record {
+        stops = λ t read start o n h.
+            let course = inv.course t read start o n h in
+            item_stopped {s = g.S.Store} {l = g.L.Width} t read inv.last (record { input = c.args.input; number = c.loop-peeked.number + 1; it = item }) start _ _ c.loop-peeked.maker c.put_record-put.new.maker n (ap (λ (n : ℕ). n + 1) inv.number) c.put_record-put.ensures.step.follows.comes fault course
+            (c.in_err-put.ensures.does t _ start o course);
+        step = step_failed fault inv.follows inv.fine (λ is. is) (λ is. tt) c.in_err-put.ensures.step;
+      },
     )
 
 pub loop-peeked-smaller-in-Continue-1 : goal.loop-peeked-smaller-in-Continue-1
@@ -125,14 +134,12 @@ loop-peeked-smaller-in-Continue-1 g c =
     let fewer = items_fewer g.L.Width.GREATEST g.F.Feeds.feed c.loop-peeked.items c.take_peeked.new.self item one in
     omega (arith, fewer)
 
-pub returns-in_err-put-clause-step : goal.returns-in_err-put-clause-step
-returns-in_err-put-clause-step g c =
+pub returns-in_err-put-clause-output : goal.returns-in_err-put-clause-output
+returns-in_err-put-clause-output g c =
     let p = err_from_is_err_and c.from_residual.result c.from_residual.ensures.1 in
-    let inv = c.loop-peeked.invariant in
-    rw (p.1, p.2) (step_failed c.in_err-put.field-0.0 inv.follows inv.fine (λ is. is) c.in_err-put.ensures.step)
+    rw (p.1, p.2) c.in_err-put.ensures.step.output
 
-pub returns-in_err-do_item-clause-step : goal.returns-in_err-do_item-clause-step
-returns-in_err-do_item-clause-step g c =
+pub returns-in_err-do_item-clause-output : goal.returns-in_err-do_item-clause-output
+returns-in_err-do_item-clause-output g c =
     let p = err_from_is_err_and c.from_residual-in_err-do_item.result c.from_residual-in_err-do_item.ensures.1 in
-    let inv = c.loop-peeked.invariant in
-    rw (p.1, p.2) (step_failed c.in_err-do_item.field-0.0 inv.follows inv.fine (λ is. is) c.in_err-do_item.ensures.step)
+    rw (p.1, p.2) c.in_err-do_item.ensures.step.output
