@@ -55,4 +55,4 @@ usage_text = codes "usage: cdb -q [-W] [-m] [-n number] database key\n"
 
 -- what `-V` writes
 abbrev pub version_text : List ℕ
-version_text = codes "cdb 1.3.0 (Pezundrix)\n"
+version_text = codes "cdb 1.4.0~dev (Pezundrix)\n"

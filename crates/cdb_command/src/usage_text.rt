@@ -47,7 +47,7 @@ pub fn write_usage<W: Sink>(w: &mut W) -> Result<(), OutFault>
 }
 
 /// The version of the program.
-const VERSION: &[u8] = b"cdb 1.3.0 (Pezundrix)\n";
+const VERSION: &[u8] = b"cdb 1.4.0~dev (Pezundrix)\n";
 
 /// Writes the name of the program and its version. After an `OutFault` the writer holds a prefix of
 /// that.
