@@ -6,7 +6,7 @@ use Rattle.cdb_form.specs.declared.width.Width.{Ghosts as Widths}
 use Rattle.cdb_make.specs.Views.Maker.{Holds, HoldsIn, StaysWhole, Puts, WouldPut, FailsPutting, Removes, FailsRemoving, limit_of, told_count, IsUsable, WhereHonest, ComesFrom}
 use Rattle.cdb_store.specs.declared.make_fault.MakeFault.TheVariants as make
 use Rattle.cdb_form.specs.declared.mode.Mode.{Mode}
-use Rattle.cdb_make.specs.declared.answer.Put.TheVariants.{Added, AddedAgain, Present, Replaced}
+use Rattle.cdb_make.specs.declared.answer.Put.TheVariants.{Present}
 use Rattle.cdb_make.proofs.Callers.{holds_count, holds_fits}
 use Rattle.cdb_make.proofs.Finishing.{rests_nothing}
 use Rattle.cdb_tool.specs.Runs.Make.{Task, Course, mode_of, put_at, told, ends, is_going, with_put, with_change, with_next, at_start, course_of, TellFails, Goes, StopsSo, DoesItem, InCourse, PutStops, IsOfStore, MakeStandsAt, IsHalt, TakesNext}

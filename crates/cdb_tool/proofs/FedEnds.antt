@@ -1,11 +1,11 @@
 -- How a run ends whose readers are returned: what it read, and what its maker says of the items that came.
-use Rattle.cdb_tool.proofs.Words.{AreRead, Bool, Change, ComesFrom, Consumes, CutShort, Err, FailsFinishing, Fault, Feed, Flushed, Ghosts, HasFault, Holds, InputForm, InputReader, Inputs, IsFile, IsOk, KeyValue, List, MakeFault, Maker, NoMore, None, NotBegun, Ok, Option, Result, RunOptions, SharedWindow, Stop, TextFault, WhereHonest, [], ap, arith, came, feeds_of, inl, input_form, inr, is_some, length, limit_of, make_fault, map, not_ok, nothing_taken, parsing, progress, refl, run_state, shared_feed, subst, sym, terms_of, ℕ, ◌+◌, ◌∙◌, ◌∷◌, ◌≡◌, ◌⊎◌}
+use Rattle.cdb_tool.proofs.Words.{Bool, Change, ComesFrom, Err, FailsFinishing, Fault, Feed, Flushed, Ghosts, Holds, InputForm, Inputs, IsFile, IsOk, KeyValue, List, MakeFault, Maker, NoMore, None, NotBegun, Ok, Option, Result, RunOptions, Stop, TextFault, WhereHonest, [], came, feeds_of, inl, input_form, inr, is_some, length, limit_of, make_fault, map, not_ok, nothing_taken, parsing, progress, refl, run_state, subst, sym, terms_of, ℕ, ◌+◌, ◌∙◌, ◌≡◌, ◌⊎◌}
 use Rattle.std.specs.Global.{Vec}
 use Rattle.std.proofs.lemmas.List.{length-map}
 use Rattle.cdb_store.specs.declared.make_fault.MakeFault.TheVariants as make
 use Rattle.cdb_form.specs.declared.text.fault.TextFault.TheVariants as text
 use Rattle.cdb_form.specs.declared.width.Width.{Ghosts as Widths}
-use Rattle.cdb_show.specs.declared.input_reader.InputReader.TheVariants.{Own, Shared}
+use Rattle.cdb_show.specs.declared.input_reader.InputReader.TheVariants.{Own}
 use Rattle.cdb_show.specs.declared.fault.Fault.TheVariants.{Output, Text}
 use Rattle.cdb_show.specs.Runs.Parsing.{IsFaultOf, fault_in, stopped_parsing}
 use Rattle.cdb_show.specs.Feed.{SomeFailed}

@@ -1,6 +1,5 @@
 -- The words that most proofs here name.
-pub use Rattle.cdb_show.specs.Feed.{AgreesWith, AreRead, AreUnread, CutShort, FirstAgree, HasFault, IsUnread, NoMore, NotBegun, Stop, StopsSo, TakesOne, reached}
-pub use Rattle.cdb_show.specs.declared.input_reader.InputReader.{InputReader}
+pub use Rattle.cdb_show.specs.Feed.{AgreesWith, AreUnread, CutShort, FirstAgree, HasFault, IsUnread, NoMore, NotBegun, Stop, reached}
 pub use Rattle.cdb_form.proofs.Bytes.WritingLemmas.{appends_kept, appends_none}
 pub use Rattle.cdb_form.proofs.Fed.FeedLemmas.{nothing_taken}
 pub use Rattle.cdb_form.specs.Views.Feed.{Consumes, Feed, FromTo}
@@ -25,8 +24,7 @@ pub use Rattle.cdb_show.proofs.Writers.{not_ok, prefix_kept, whole_prefix}
 pub use Rattle.cdb_show.specs.Message.{TellsEach, TellsPart, Told}
 pub use Rattle.cdb_show.specs.Runs.Flushed.{Flushed}
 pub use Rattle.cdb_show.specs.Runs.Incoming.{Incoming, came, from_input, from_inputs}
-pub use Rattle.cdb_show.specs.Runs.Inputs.{BeginsWithItems, HasFaults, HasItemFault, InputForm, IsInputOf, input_form}
-pub use Rattle.cdb_show.specs.Runs.Lookups.{StopsBehind}
+pub use Rattle.cdb_show.specs.Runs.Inputs.{BeginsWithItems, InputForm, IsInputOf, input_form}
 pub use Rattle.cdb_show.specs.Runs.InputTask.{progress}
 pub use Rattle.cdb_show.specs.Views.Fault.{make_fault}
 pub use Rattle.cdb_show.specs.Views.Noted.{shared_feed}
@@ -39,10 +37,10 @@ pub use Rattle.cdb_store.proofs.Reading.{reads_more, reads_nothing}
 pub use Rattle.cdb_store.specs.Reads.{OnlyReads}
 pub use Rattle.cdb_store.specs.declared.make_fault.MakeFault.{MakeFault}
 pub use Rattle.cdb_store.specs.declared.store.Store.{Ghosts}
-pub use Rattle.cdb_tool.specs.Runs.Make.{Course, EndsSo, InCourse, MakeRuns, NotAdded, OfBase, PutsInputs, PutsInputsStop, Task, course_of, ends, is_going, mode_of, terms_of, with_change, with_next}
+pub use Rattle.cdb_tool.specs.Runs.Make.{Course, EndsSo, InCourse, NotAdded, OfBase, PutsInputs, PutsInputsStop, Task, course_of, ends, is_going, mode_of, terms_of, with_change, with_next}
 pub use Rattle.cdb_tool.specs.Runs.Made.{made_of}
 pub use Rattle.cdb_tool.specs.Runs.MakesSo.{ComesOf}
-pub use Rattle.cdb_tool.specs.Runs.InputsRead.{RunsRead, WereRead, feeds_of, parsing, run_state, stop_by}
+pub use Rattle.cdb_tool.specs.Runs.InputsRead.{RunsRead, WereRead, feeds_of, parsing, run_state}
 pub use Rattle.cdb_tool.specs.declared.runs.options.RunOptions.{RunOptions}
 pub use Rattle.std.proofs.Common.{Bool, Err, List, None, Ok, Option, Result, Some, [], ap, append_assoc, arith, false, if◌then◌else◌, inl, inr, is_some, length, length-append, map, refl, rules, subst, sym, take, true, true≢false, ℕ, ◌*◌, ◌++◌, ◌+◌, ◌<◌, ◌^◌, ◌∙◌, ◌∷◌, ◌≡◌, ◌≢◌, ◌≤◌, ◌⊎◌}
 pub use Rattle.std.proofs.lemmas.Bool.{cond-true, le-leb}

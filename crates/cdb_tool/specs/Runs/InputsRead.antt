@@ -1,19 +1,15 @@
 -- What a run that makes a database read of its inputs, and what a parser makes of that.
-use Rattle.std.specs.Prelude.{Err, IfErr, IfSome, List, Ok, Option, Result, [], is_some, length, ℕ, ⊤, ◌+◌, ◌∷◌, ◌≡◌}
-use Rattle.std.proofs.Common.{ap}
-use Rattle.cdb_form.specs.Format.{AreBytes}
+use Rattle.std.specs.Prelude.{Err, IfErr, List, Ok, Option, Result, is_some, length, ℕ, ⊤, ◌+◌, ◌≡◌}
 use Rattle.cdb_form.specs.Text.Parse.{Change}
 use Rattle.cdb_form.specs.declared.text.fault.TextFault.{TextFault}
-use Rattle.cdb_show.specs.Feed.{AreRead, CutShort, HasFault, NoMore, NotBegun, Parsed, Parsing, SomeFailed, Stop, StopsSo}
-use Rattle.cdb_show.specs.Runs.Given.{input_parsed}
-use Rattle.cdb_show.specs.Runs.Inputs.{BeginsWithItems, HasFaults, HasItemFault, InputForm, IsInputOf, input_form}
+use Rattle.cdb_show.specs.Feed.{AreRead, HasFault, NoMore, Parsing, SomeFailed, Stop}
+use Rattle.cdb_show.specs.Runs.Inputs.{InputForm, input_form}
 use Rattle.cdb_show.specs.declared.fault.Fault.{Fault}
 use Rattle.cdb_show.specs.declared.fault.Fault.TheVariants.{Text}
 use Rattle.cdb_store.specs.declared.store.Store.{Ghosts}
 use Rattle.cdb_form.specs.Views.Feed.{Consumes, Feed}
-use Rattle.cdb_form.specs.declared.text.fault.TextFault.TheVariants as text_fault
 use Rattle.cdb_make.specs.Views.Maker.{WhereHonest}
-use Rattle.cdb_show.specs.Runs.Parsing.{IsFaultOf, IsOfRun, fault_in, stop_of, stopped_parsing}
+use Rattle.cdb_show.specs.Runs.Parsing.{IsFaultOf, fault_in, stop_of, stopped_parsing}
 use Rattle.cdb_show.specs.Views.Noted.{ArePassed, shared_feed}
 use Rattle.cdb_show.specs.declared.inputs.Inputs.{Inputs}
 use Rattle.cdb_show.specs.declared.inputs.SharedWindow.{SharedWindow}

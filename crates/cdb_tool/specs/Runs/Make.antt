@@ -28,7 +28,7 @@ use Rattle.cdb_form.specs.Views.TextFault.{IsOfText, IsReadFault, LastRead}
 use Rattle.cdb_form.specs.declared.text.fault.TextFault.{TextFault}
 use Rattle.cdb_form.specs.declared.text.fault.TextFault.TheVariants as text_fault
 use Rattle.cdb_show.specs.Feed.{CutShort, HasFault, NotBegun, Stop}
-use Rattle.cdb_show.specs.Runs.Inputs.{HasFaultBehind, HasItemFault, InputForm, input_form}
+use Rattle.cdb_show.specs.Runs.Inputs.{HasFaultBehind, input_form}
 use Rattle.cdb_show.specs.Runs.InputTask.{Progress, Work}
 use Rattle.cdb_show.specs.Runs.Parsing.{IsOfRun}
 use Rattle.cdb_show.specs.Views.Output.{OutputSays}

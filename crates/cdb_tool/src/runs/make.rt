@@ -1,19 +1,17 @@
 // A database made of the records of a base, if there is one, and of what some inputs say.
 ghost use Rattle.std.specs.Prelude.{Err, IfErr, List, Ok, OnOk, Option, Result, Some, [], is_some, length, map, ℕ, ◌+◌, ◌<◌, ◌≡◌, ◌≤◌};
 ghost use Rattle.std.specs.Borrow.{Bor};
-ghost use Rattle.cdb_form.specs.Views.Feed.{FromTo, reader_feed};
+ghost use Rattle.cdb_form.specs.Views.Feed.{reader_feed};
 ghost use Rattle.cdb_form.specs.Format.{head_size};
 ghost use Rattle.cdb_form.specs.Text.Parse.{Change};
-ghost use Rattle.cdb_show.specs.Feed.{AreRead, NoMore, ReaderFailed, SomeFailed, TakesOne};
-ghost use Rattle.cdb_show.specs.Runs.Inputs.{IsInputOf, input_form};
-ghost use Rattle.cdb_show.specs.Runs.Lookups.{StopsBehind};
-ghost use Rattle.cdb_make.specs.Views.Maker.{WhereHonest};
+ghost use Rattle.cdb_show.specs.Feed.{NoMore, SomeFailed};
+ghost use Rattle.cdb_show.specs.Runs.Inputs.{input_form};
 ghost use Rattle.cdb_show.specs.Runs.InputTask.{progress};
 ghost use Rattle.cdb_show.specs.Runs.Parsing.{IsFaultOf};
 ghost use Rattle.cdb_show.specs.Views.Output.{OutputSays};
 ghost use Rattle.cdb_show.specs.declared.fault.Fault.TheVariants.{NoMemory};
 ghost use Rattle.cdb_show.specs.declared.input_reader.InputReader.TheVariants.{Own};
-ghost use Rattle.cdb_tool.specs.Runs.Make.{BaseHasFailed, HandsBack, IsOfBase, IsOfStore, MakeRuns, OfBase, PutsInputs, PutsInputsStop, StepsOn, plain, terms_of};
+ghost use Rattle.cdb_tool.specs.Runs.Make.{BaseHasFailed, HandsBack, IsOfBase, IsOfStore, PutsInputs, PutsInputsStop, StepsOn, plain, terms_of};
 ghost use Rattle.cdb_tool.specs.Runs.InputsRead.{RunsRead, WereRead, feeds_of, parsing, run_state, stop_by};
 
 use crate::runs::context::RunContext;
