@@ -6,4 +6,5 @@ pub mod NativeTexts
 pub mod MapTexts
 pub mod Slots
 pub mod Fed
+pub mod Filling
 mod Words

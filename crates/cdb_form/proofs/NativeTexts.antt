@@ -8,4 +8,5 @@ pub mod RecordLemmas
 pub mod FormReads
 pub mod KeyTexts
 pub mod PrefixLemmas
+pub mod ShortLengths
 pub mod Parsing

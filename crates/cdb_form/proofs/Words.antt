@@ -14,7 +14,7 @@ pub use Rattle.cdb_form.specs.Text.Map.{BeginsOther, IsIgnoredLine, IsLineOf, La
 pub use Rattle.cdb_form.specs.Text.Native.{IsNumeral, Spells}
 pub use Rattle.cdb_form.specs.Views.MapReader.{IsAmidLines}
 pub use Rattle.cdb_form.specs.Views.Pairs.{PairFits, changes_of, header_pair, key_value, key_values, pointer_pair, AreRuns, IsRun}
-pub use Rattle.cdb_form.specs.Views.Prefix.{BeginsWithBody, BeginsWithNumeral, IsStored, BeginsWithLine, may_end}
+pub use Rattle.cdb_form.specs.Views.Prefix.{BeginsWithBody, IsStored, BeginsWithLine, may_end}
 pub use Rattle.cdb_form.specs.Views.RecordReader.{behind_records}
 unfoldable pub use Rattle.cdb_form.specs.Views.Pairs.{slots_in}
 pub use Rattle.cdb_form.specs.Views.Source.{budget}

@@ -15,4 +15,5 @@ pub mod RecordReader
 pub mod Feed
 pub mod KnownBytes
 pub mod Prefix
+pub mod Fill
 pub mod Pairs

@@ -1,4 +1,4 @@
-// A record in memory.
+// A record in memory, of its own or where it lies.
 ghost use Rattle.std.specs.Prelude.{◌≡◌, []};
 ghost use Rattle.cdb_form.specs.Format.{AreBytes};
 
@@ -11,6 +11,15 @@ pub struct Record {
     pub value: Vec<u8>,
     pub ghost key_bytes: { AreBytes key.items },
     pub ghost value_bytes: { AreBytes value.items },
+}
+
+/// A record that a reader has at hand, where it is.
+#[derive(Clone, Copy)]
+pub struct PeekedRecord<'a> {
+    pub key: &'a [u8],
+    pub value: &'a [u8],
+    /// The number of the reader's bytes that spell the record.
+    pub len: usize,
 }
 
 impl Record {

@@ -1,7 +1,7 @@
 -- What the parser of a map text took, piece after piece.
-use Rattle.std.proofs.Common.{All, List, None, Option, Some, [], append_assoc, ap, arith, false, get_or, is_some, length, length-append, refl, subst, sym, take, true, ◌++◌, ◌+◌, ◌<◌, ◌∙◌, ◌∷◌, ◌≡◌, ◌≢◌, ◌≤◌, ℕ}
+use Rattle.std.proofs.Common.{All, List, None, Option, Some, [], append_assoc, ap, arith, false, get_or, is_some, length-append, refl, subst, sym, take, true, ◌++◌, ◌+◌, ◌<◌, ◌∙◌, ◌∷◌, ◌≡◌, ◌≢◌, ◌≤◌, ℕ}
 use Rattle.cdb_form.proofs.Words.{All-append, All-nil, All-push, AllPass, BeginsWithLine, Consumes, Feed, IsAmidLines, IsAtEnd, IsIgnoredLine, IsLineOf, IsOfText, IsReadFault, Keeps, KeyValue, Kind, Lacks, Source, TextFault, behind_blanks, budget, eqb-true, flat_map-append, is_blank, is_newline, is_of, line_end, line_pair, with_newlines, ◌==◌}
-use Rattle.std.proofs.lemmas.List.{append-nil, length-take}
+use Rattle.std.proofs.lemmas.List.{append-nil}
 use Rattle.cdb_form.specs.Views.MapParser.{MovesRun, ReadsLine, ReadsPair, ReadsRun, ReadsToEnding, ReadsValue}
 use Rattle.cdb_form.specs.Views.MapReader.{ReadsLinesOf}
 use Rattle.cdb_form.specs.Views.Source.{IsTold, LeavesAmid, Takes}
@@ -328,15 +328,3 @@ lines_found feed old mid new ignored line stop r so is reads = record {
   is = is;
   reads = to_ending_behind feed old mid new (with_newlines ignored) line (with_newlines ignored ++ line) stop so.takes so.spends reads refl;
 }
-
--- the line of the next record, by one step
-pub record_at_hand : {R : Type 0} (feed : R → Feed) (old new : Source R) (bytes : List ℕ) (n : ℕ) (r : KeyValue) → BeginsWithLine bytes n r → Takes feed old new (take n bytes)
-    → new.taken ≡ old.taken + n → old.asks ≡ new.asks + n → ReadsLinesOf feed old new r (10 ∷ [])
-record_at_hand feed old new bytes n r begins takes counted asked =
-    let line = line_at_hand feed old new bytes n r begins takes counted asked in
-    let none : LinesSoFar feed old old [] = record { are = All-nil _; takes = takes_none feed old; asks = omega arith; spends = omega arith } in
-    lines_found feed old old new [] line.0 (10 ∷ []) r none line.1 line.2
-
--- it has a byte at least
-pub line_some : (bytes : List ℕ) (n : ℕ) (r : KeyValue) → BeginsWithLine bytes n r → 0 < n
-line_some bytes n r begins = omega (arith, ap (λ t. length t) begins.front, length-take n bytes, length-append begins.line (10 ∷ []))

@@ -1,5 +1,5 @@
 -- A whole map text, record after record.
-use Rattle.cdb_form.proofs.Words.{All, All-append, All-nil, All-push, AllByRecursion, IsIgnoredLine, IsLineOf, KeyValue, Lacks, List, MapReader, [], ap, append-nil, append_assoc, flat_map, flat_map-append, is_newline, line_records, map_lines, recursion_from_All, refl, sym, with_newlines, ℕ, ◌++◌, ◌∙◌, ◌∷◌, ◌≡◌}
+use Rattle.cdb_form.proofs.Words.{All, All-append, All-nil, All-push, AllByRecursion, IsIgnoredLine, IsLineOf, KeyValue, Lacks, List, MapReader, [], ap, append-nil, append_assoc, flat_map, flat_map-append, is_newline, line_records, map_lines, recursion_from_All, refl, subst, sym, with_newlines, ℕ, ◌++◌, ◌∙◌, ◌∷◌, ◌≡◌}
 use Rattle.cdb_form.specs.Views.MapReader.{HasEnded, IsAmidLines, IsGoing, ReadAmid, ReadLines}
 use Rattle.cdb_form.specs.declared.text.going.Going.TheVariants.{AtEnd, On}
 use Rattle.cdb_form.proofs.MapTexts.MapLines.{map_lines-last, map_lines-line}
@@ -32,24 +32,38 @@ read_rest text rest rs g =
     ap map_lines g.split ∙ lines_then g.lines rest (recursion_from_All (Lacks is_newline) g.lines g.whole)
     ∙ ap (λ t. t ++ map_lines rest) g.records
 
-read_ignored : (text mid rest : List ℕ) (rs : List KeyValue) (ignored : List (List ℕ)) → ReadLines text mid rs → All IsIgnoredLine ignored → mid ≡ with_newlines ignored ++ rest → ReadLines text rest rs
-read_ignored text mid rest rs ignored g are e = record {
-  lines = g.lines ++ ignored;
-  whole = All-append (Lacks is_newline) g.lines ignored g.whole (ignored_whole ignored are);
-  split = g.split ∙ ap (λ t. with_newlines g.lines ++ t) e ∙ sym (append_assoc (with_newlines g.lines) (with_newlines ignored) rest)
-      ∙ ap (λ t. t ++ rest) (sym (flat_map-append (λ l. l ++ 10 ∷ []) g.lines ignored));
-  records = flat_map-append line_records g.lines ignored ∙ ap (λ t. flat_map line_records g.lines ++ t) (none_held ignored (recursion_from_All IsIgnoredLine ignored are))
-      ∙ append-nil (flat_map line_records g.lines) ∙ g.records;
+pub read_both : (text mid rest : List ℕ) (rs here : List KeyValue) → ReadLines text mid rs → ReadLines mid rest here → ReadLines text rest (rs ++ here)
+read_both text mid rest rs here g h = record {
+  lines = g.lines ++ h.lines;
+  whole = All-append (Lacks is_newline) g.lines h.lines g.whole h.whole;
+  split = g.split ∙ ap (λ t. with_newlines g.lines ++ t) h.split ∙ sym (append_assoc (with_newlines g.lines) (with_newlines h.lines) rest)
+      ∙ ap (λ t. t ++ rest) (sym (flat_map-append (λ l. l ++ 10 ∷ []) g.lines h.lines));
+  records = flat_map-append line_records g.lines h.lines ∙ ap (λ t. t ++ flat_map line_records h.lines) g.records ∙ ap (λ t. rs ++ t) h.records;
 }
 
-read_line : (text mid rest : List ℕ) (rs : List KeyValue) (r : KeyValue) (line : List ℕ) → ReadLines text mid rs → IsLineOf r line → mid ≡ line ++ 10 ∷ rest → ReadLines text rest (rs ++ r ∷ [])
-read_line text mid rest rs r line g is e = record {
-  lines = g.lines ++ line ∷ [];
-  whole = All-push (Lacks is_newline) g.lines line g.whole is.whole;
-  split = g.split ∙ ap (λ t. with_newlines g.lines ++ t) (e ∙ sym (append_assoc line (10 ∷ []) rest)) ∙ sym (append_assoc (with_newlines g.lines) (line ++ 10 ∷ []) rest)
-      ∙ ap (λ t. t ++ rest) (ap (λ t. with_newlines g.lines ++ t) (sym (append-nil (line ++ 10 ∷ []))) ∙ sym (flat_map-append (λ l. l ++ 10 ∷ []) g.lines (line ∷ [])));
-  records = flat_map-append line_records g.lines (line ∷ []) ∙ ap (λ t. t ++ (line_records line ++ [])) g.records ∙ ap (λ t. rs ++ t) (append-nil (line_records line) ∙ is.holds);
+-- what a text holds that nothing follows, it holds before anything
+pub read_before : (piece rest : List ℕ) (here : List KeyValue) → ReadLines piece [] here → ReadLines (piece ++ rest) rest here
+read_before piece rest here g = record {
+  lines = g.lines;
+  whole = g.whole;
+  split = ap (λ t. t ++ rest) (g.split ∙ append-nil (with_newlines g.lines));
+  records = g.records;
 }
+
+read_ignored : (text mid rest : List ℕ) (rs : List KeyValue) (ignored : List (List ℕ)) → ReadLines text mid rs → All IsIgnoredLine ignored → mid ≡ with_newlines ignored ++ rest → ReadLines text rest rs
+read_ignored text mid rest rs ignored g are e =
+    let none : ReadLines mid rest [] = record { lines = ignored; whole = ignored_whole ignored are; split = e; records = none_held ignored (recursion_from_All IsIgnoredLine ignored are) } in
+    subst (ReadLines text rest) (append-nil rs) (read_both text mid rest rs [] g none)
+
+read_line : (text mid rest : List ℕ) (rs : List KeyValue) (r : KeyValue) (line : List ℕ) → ReadLines text mid rs → IsLineOf r line → mid ≡ line ++ 10 ∷ rest → ReadLines text rest (rs ++ r ∷ [])
+read_line text mid rest rs r line g is e =
+    let one : ReadLines mid rest (r ∷ []) = record {
+      lines = line ∷ [];
+      whole = All-push (Lacks is_newline) [] line (All-nil (Lacks is_newline)) is.whole;
+      split = e ∙ sym (append_assoc line (10 ∷ []) rest) ∙ ap (λ t. t ++ rest) (sym (append-nil (line ++ 10 ∷ [])));
+      records = append-nil (line_records line) ∙ is.holds;
+    } in
+    read_both text mid rest rs (r ∷ []) g one
 
 -- one record more, whose line ends with a newline
 pub read_more : (text mid rest : List ℕ) (rs : List KeyValue) (r : KeyValue) (ignored : List (List ℕ)) (line : List ℕ) → ReadLines text mid rs → All IsIgnoredLine ignored → IsLineOf r line

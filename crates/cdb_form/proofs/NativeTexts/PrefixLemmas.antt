@@ -1,24 +1,14 @@
 -- What bytes of a native text begin with, part after part.
-use Rattle.cdb_form.proofs.Words.{AllDigits, IsNumeral, IsRecord, KeyValue, List, [], ap, append_assoc, arith, codes, digit_value, digits_push, digits_value, digits_value_push, drop, get_or, length, length-drop, length-take-le, refl, subst, sym, take, take-add, take_more, ℕ, ◌*◌, ◌++◌, ◌+◌, ◌<◌, ◌∙◌, ◌∷◌, ◌≡◌, ◌≤◌}
-use Rattle.cdb_form.specs.Views.Prefix.{BeginsWithBody, BeginsWithLengths, BeginsWithNumeral, BeginsWithRecord}
+use Rattle.cdb_form.proofs.Words.{IsNumeral, IsRecord, KeyValue, List, [], ap, append_assoc, arith, codes, drop, get_or, length, length-drop, length-take-le, refl, subst, sym, take, take-add, take_more, ℕ, ◌++◌, ◌+◌, ◌<◌, ◌∙◌, ◌∷◌, ◌≡◌, ◌≤◌}
+use Rattle.cdb_form.specs.Views.Prefix.{BeginsWithBody, BeginsWithLengths, BeginsWithRecord}
 use Rattle.cdb_form.specs.declared.text.prefix.PrefixLengths.{PrefixLengths}
-use Rattle.cdb_form.specs.declared.text.prefix.PrefixNumeral.{PrefixNumeral}
 
--- the first bytes are digits of a value
-pub record PrefixDigits (bytes : List ℕ) (place value : ℕ) : Type 0 where
-  pub each : AllDigits 10 (take place bytes)
-  pub value_is : digits_value 10 (take place bytes) ≡ value
-  pub within : place ≤ length bytes
-
-pub prefix_digit : (bytes : List ℕ) (place value c : ℕ) → PrefixDigits bytes place value → place < length bytes → get_or bytes place 0 ≡ c → digit_value c < 10 → PrefixDigits bytes (place + 1) (value * 10 + digit_value c)
-prefix_digit bytes place value c so here is digit =
-    let value_is : digits_value 10 (take place bytes) ≡ value = so.value_is in
-    let more : take (place + 1) bytes ≡ take place bytes ++ c ∷ [] = take_more bytes place 0 here ∙ ap (λ b. take place bytes ++ b ∷ []) is in
-    record {
-      each = subst (AllDigits 10) (sym more) (digits_push 10 (take place bytes) c so.each digit);
-      value_is = ap (digits_value 10) more ∙ digits_value_push 10 (take place bytes) c ∙ ap (λ (v : ℕ). v * 10 + digit_value c) value_is;
-      within = omega arith;
-    }
+-- a numeral of n, followed by `stop`, up to a place
+pub record BeginsWithNumeral (stop : ℕ) (bytes : List ℕ) (n end : ℕ) : Type 0 where
+  pub digits : List ℕ
+  pub is : IsNumeral digits n
+  pub front : take end bytes ≡ digits ++ stop ∷ []
+  pub within : end ≤ length bytes
 
 -- the key and the value with their marks
 pub body_prefix : (klen vlen : ℕ) (bytes : List ℕ) → klen + vlen + 3 ≤ length bytes → get_or bytes klen 0 ≡ 45 → get_or bytes (klen + 1) 0 ≡ 62 → get_or bytes (klen + 2 + vlen) 0 ≡ 10 → BeginsWithBody klen vlen bytes
@@ -41,23 +31,23 @@ body_prefix klen vlen bytes within dash angle newline =
     }
 
 -- a plus and two numerals
-pub lengths_prefix : (greatest : ℕ) (bytes : List ℕ) (k v : PrefixNumeral) (l : PrefixLengths) → 0 < length bytes → get_or bytes 0 0 ≡ 43 → BeginsWithNumeral 44 (drop 1 bytes) k → BeginsWithNumeral 58 (drop (1 + k.end) bytes) v
-    → k.value ≤ greatest → v.value ≤ greatest → l.klen ≡ k.value → l.vlen ≡ v.value → l.end ≡ 1 + k.end + v.end → BeginsWithLengths greatest bytes l
-lengths_prefix greatest bytes k v l some plus a b kfits vfits kis vis end =
+pub lengths_prefix : (greatest : ℕ) (bytes : List ℕ) (kend vend : ℕ) (l : PrefixLengths) → 0 < length bytes → get_or bytes 0 0 ≡ 43 → BeginsWithNumeral 44 (drop 1 bytes) l.klen kend → BeginsWithNumeral 58 (drop (1 + kend) bytes) l.vlen vend
+    → l.klen ≤ greatest → l.vlen ≤ greatest → l.end ≡ 1 + kend + vend → BeginsWithLengths greatest bytes l
+lengths_prefix greatest bytes kend vend l some plus a b kfits vfits end =
     let one : take 1 bytes ≡ 43 ∷ [] = take_more bytes 0 0 some ∙ ap (λ c. c ∷ []) plus in
-    let two : take (1 + k.end) bytes ≡ (43 ∷ []) ++ (a.digits ++ 44 ∷ []) = take-add 1 k.end bytes ∙ ap (λ t. t ++ take k.end (drop 1 bytes)) one ∙ ap (λ t. (43 ∷ []) ++ t) a.front in
-    let three : take (1 + k.end + v.end) bytes ≡ ((43 ∷ []) ++ (a.digits ++ 44 ∷ [])) ++ (b.digits ++ 58 ∷ []) =
-    take-add (1 + k.end) v.end bytes ∙ ap (λ t. t ++ take v.end (drop (1 + k.end) bytes)) two ∙ ap (λ t. ((43 ∷ []) ++ (a.digits ++ 44 ∷ [])) ++ t) b.front in
+    let two : take (1 + kend) bytes ≡ (43 ∷ []) ++ (a.digits ++ 44 ∷ []) = take-add 1 kend bytes ∙ ap (λ t. t ++ take kend (drop 1 bytes)) one ∙ ap (λ t. (43 ∷ []) ++ t) a.front in
+    let three : take (1 + kend + vend) bytes ≡ ((43 ∷ []) ++ (a.digits ++ 44 ∷ [])) ++ (b.digits ++ 58 ∷ []) =
+    take-add (1 + kend) vend bytes ∙ ap (λ t. t ++ take vend (drop (1 + kend) bytes)) two ∙ ap (λ t. ((43 ∷ []) ++ (a.digits ++ 44 ∷ [])) ++ t) b.front in
     let last : ((43 ∷ []) ++ (a.digits ++ 44 ∷ [])) ++ (b.digits ++ 58 ∷ []) ≡ codes "+" ++ a.digits ++ codes "," ++ b.digits ++ codes ":" = simp append_assoc refl in
     record {
       klen = a.digits;
       vlen = b.digits;
-      klen_is = subst (IsNumeral a.digits) (sym kis) a.is;
-      vlen_is = subst (IsNumeral b.digits) (sym vis) b.is;
-      key_fits = omega (arith, kfits, kis);
-      value_fits = omega (arith, vfits, vis);
+      klen_is = a.is;
+      vlen_is = b.is;
+      key_fits = kfits;
+      value_fits = vfits;
       front = ap (λ (n : ℕ). take n bytes) end ∙ three ∙ last;
-      within = omega (arith, end, a.within, b.within, length-drop 1 bytes, length-drop (1 + k.end) bytes);
+      within = omega (arith, end, a.within, b.within, length-drop 1 bytes, length-drop (1 + kend) bytes);
     }
 
 -- the whole record

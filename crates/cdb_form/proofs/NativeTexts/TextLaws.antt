@@ -72,7 +72,7 @@ changes_read_back g xs rest h fit = lines_read SpellsChange changes change_line 
 
 -- ---- a native text is an amending one, and its records are puts
 
-spelled_puts : (g : ℕ) (rs : List KeyValue) (t rest : List ℕ) → Spelled g rs t rest → SpelledChanges g (map Putting rs) t rest
+pub spelled_puts : (g : ℕ) (rs : List KeyValue) (t rest : List ℕ) → Spelled g rs t rest → SpelledChanges g (map Putting rs) t rest
 spelled_puts g [] t rest e = e
 spelled_puts g (r ∷ rs) t rest (first, more, sp, e, reads) = (first, more, sp, e, spelled_puts g rs more rest reads)
 

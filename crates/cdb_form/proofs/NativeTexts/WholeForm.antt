@@ -1,5 +1,5 @@
 -- A whole text of a form, item after item.
-use Rattle.cdb_form.proofs.Words.{AllByRecursion, List, TextFault, [], ap, append_assoc, arith, digit_value, flat_map, get_or, length, length-append, refl, subst, sym, take, ℕ, ◌++◌, ◌+◌, ◌-◌, ◌∙◌, ◌∷◌, ◌≡◌, ◌≤◌}
+use Rattle.cdb_form.proofs.Words.{AllByRecursion, List, TextFault, [], ap, append-nil, append_assoc, arith, digit_value, flat_map, get_or, length, length-append, refl, subst, sym, take, ℕ, ◌++◌, ◌+◌, ◌-◌, ◌∙◌, ◌∷◌, ◌≡◌, ◌≤◌}
 use Rattle.std.proofs.Math.Seq.{take-append-add}
 use Rattle.std.proofs.lemmas.List.{get_or-append-add, length-take-le}
 use Rattle.cdb_form.specs.declared.text.fault.TextFault.TheVariants.{Syntax, Ended, Large, Input, Endless, NoMemory}
@@ -8,11 +8,30 @@ use Rattle.cdb_form.specs.Views.FormReader.{StopsAmid}
 use Rattle.cdb_form.specs.Text.Form.{Spelled, Reads, HasNoItem, WholeItems, IsPrefix, HasNoText, LongestPrefix, LiftsLength, HasFault}
 use Rattle.cdb_form.proofs.NativeTexts.Spelling.{IsSpelling}
 
--- ---- one item more
+-- ---- some items more
 
-pub spelled_push : {X : Type 0} (S : ℕ → List ℕ → X → Type 0) (g : ℕ) (xs : List X) (i : X) (t mid first more : List ℕ) → Spelled S g xs t mid → S g first i → mid ≡ first ++ more → Spelled S g (xs ++ i ∷ []) t more
-spelled_push S g [] i t mid first more e sp split = (first, more, sp, e ∙ split, refl)
-spelled_push S g (q ∷ xs) i t mid first more (first', more', sp', e, reads) sp split = (first', more', sp', e, spelled_push S g xs i more' mid first more reads sp split)
+-- what spells some items, whatever follows it
+record Prefix {X : Type 0} (S : ℕ → List ℕ → X → Type 0) (g : ℕ) (xs : List X) (t mid : List ℕ) : Type 0 where
+  front : List ℕ
+  split : t ≡ front ++ mid
+  spelled : (x : List ℕ) → Spelled S g xs (front ++ x) x
+
+prefix_of : {X : Type 0} (S : ℕ → List ℕ → X → Type 0) (g : ℕ) (xs : List X) (t mid : List ℕ) → Spelled S g xs t mid → Prefix S g xs t mid
+prefix_of S g [] t mid e = record { front = []; split = e; spelled = λ x. refl }
+prefix_of S g (i ∷ xs) t mid (first, more, sp, e, reads) =
+    let f = prefix_of S g xs more mid reads in
+    record {
+      front = first ++ f.front;
+      split = e ∙ ap (λ z. first ++ z) f.split ∙ sym (append_assoc first f.front mid);
+      spelled = λ x. (first, f.front ++ x, sp, append_assoc first f.front x, f.spelled x);
+    }
+
+pub spelled_both : {X : Type 0} (S : ℕ → List ℕ → X → Type 0) (g : ℕ) (xs ys : List X) (t piece more : List ℕ) → Spelled S g xs t (piece ++ more) → Spelled S g ys piece [] → Spelled S g (xs ++ ys) t more
+spelled_both S g [] ys t piece more e sp =
+    let p = prefix_of S g ys piece [] sp in
+    let same : t ≡ p.front ++ more = e ∙ ap (λ z. z ++ more) (p.split ∙ append-nil p.front) in
+    subst (λ z. Spelled S g ys z more) (sym same) (p.spelled more)
+spelled_both S g (q ∷ xs) ys t piece more (first, rest, one, e, reads) sp = (first, rest, one, e, spelled_both S g xs ys rest piece more reads sp)
 
 -- ---- a text is read in one way
 
@@ -116,9 +135,9 @@ fault_behind S s g (i ∷ xs) from to t x f (first, more, sp, e, reads) long h =
 abbrev pub SoFar : {X : Type 0} → (ℕ → List ℕ → X → Type 0) → ℕ → (text rest : List ℕ) → ℕ → List X → Type 0
 SoFar S g text rest taken xs = Spelled S g xs text rest × (taken + length rest ≡ length text)
 
-pub so_far_more : {X : Type 0} (S : ℕ → List ℕ → X → Type 0) (g : ℕ) (t m n first : List ℕ) (from to : ℕ) (xs : List X) (i : X) → SoFar S g t m from xs → S g first i → m ≡ first ++ n → to ≡ from + length first → SoFar S g t n to (xs ++ i ∷ [])
-so_far_more S g t m n first from to xs i a spells split counted =
-    (spelled_push S g xs i t m first n a.0 spells split, omega (arith, a.1, counted, ap length split, length-append first n))
+pub so_far_both : {X : Type 0} (S : ℕ → List ℕ → X → Type 0) (g : ℕ) (t piece more : List ℕ) (from to : ℕ) (xs ys : List X) → SoFar S g t (piece ++ more) from xs → Spelled S g ys piece [] → to ≡ from + length piece → SoFar S g t more to (xs ++ ys)
+so_far_both S g t piece more from to xs ys a spells counted =
+    (spelled_both S g xs ys t piece more a.0 spells, omega (arith, a.1, counted, length-append piece more))
 
 -- a fault of what is left is one of the whole, and these were all of its items
 pub so_far_fault : {X : Type 0} (S : ℕ → List ℕ → X → Type 0) → IsSpelling S → (g : ℕ) (t m : List ℕ) (taken : ℕ) (xs : List X) (f : TextFault) → SoFar S g t m taken xs
@@ -127,22 +146,6 @@ so_far_fault S s g t m taken xs f a b none =
     ((m, record { spelled = a.0; no_more = none }), fault_behind S s g xs 0 taken t m f a.0 (omega (arith, a.1)) b)
 
 -- ---- a part that a reader gave before it failed
-
--- what spells some items, whatever follows it
-record Prefix {X : Type 0} (S : ℕ → List ℕ → X → Type 0) (g : ℕ) (xs : List X) (t mid : List ℕ) : Type 0 where
-  front : List ℕ
-  split : t ≡ front ++ mid
-  spelled : (x : List ℕ) → Spelled S g xs (front ++ x) x
-
-prefix_of : {X : Type 0} (S : ℕ → List ℕ → X → Type 0) (g : ℕ) (xs : List X) (t mid : List ℕ) → Spelled S g xs t mid → Prefix S g xs t mid
-prefix_of S g [] t mid e = record { front = []; split = e; spelled = λ x. refl }
-prefix_of S g (i ∷ xs) t mid (first, more, sp, e, reads) =
-    let f = prefix_of S g xs more mid reads in
-    record {
-      front = first ++ f.front;
-      split = e ∙ ap (λ z. first ++ z) f.split ∙ sym (append_assoc first f.front mid);
-      spelled = λ x. (first, f.front ++ x, sp, append_assoc first f.front x, f.spelled x);
-    }
 
 -- a part of a text ends early after these items, all that are whole there
 pub record EndsBehind {X : Type 0} (S : ℕ → List ℕ → X → Type 0) (g : ℕ) (part : List ℕ) (xs : List X) (at : ℕ) : Type 0 where

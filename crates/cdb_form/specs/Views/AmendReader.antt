@@ -1,6 +1,5 @@
 -- What a clause reads of a reader of an amending text.
 use Rattle.std.specs.Prelude.{ℕ, List, ◌+◌, ◌*◌}
-use Rattle.cdb_form.specs.Format.{KeyValue}
 use Rattle.cdb_form.specs.Text.Parse.{Change, SpellsChange}
 use Rattle.cdb_form.specs.declared.text.fault.TextFault.{TextFault}
 use Rattle.cdb_form.specs.declared.text.amend_reader.AmendReader.{AmendReader}
@@ -30,10 +29,6 @@ HasEnded t = form.HasEnded t.items
 -- it has answered this fault
 abbrev pub HasFailed : {R L : Type 0} → AmendReader R L → TextFault → Type 0
 HasFailed t fault = form.HasFailed t.items fault
-
--- the next item is a record that is whole at hand, spelled by n bytes there
-abbrev pub HasPeeked : {R L : Type 0} → (R → List ℕ) → ℕ → AmendReader R L → ℕ → KeyValue → Type 0
-HasPeeked held greatest t n r = form.HasPeeked held greatest t.items n r
 
 -- what was read of a text, from the count `from` to the count `to`, is the start of a text, and no
 -- whole one; no whole change is there

@@ -1,11 +1,9 @@
 -- What a clause reads of a reader of a text of some form, whose items are spelled as `spelling` says.
-use Rattle.std.specs.Prelude.{ℕ, List, ◌+◌, ◌-◌, ◌<◌, ◌≤◌, length, take, ◌≡◌, Bool, true, false, codes}
-use Rattle.cdb_form.specs.Format.{KeyValue}
+use Rattle.std.specs.Prelude.{ℕ, List, [], ◌+◌, ◌-◌, ◌<◌, ◌≤◌, length, take, ◌≡◌, Bool, true, false, codes}
 use Rattle.cdb_form.specs.Text.Parse.{SpellsChange}
-use Rattle.cdb_form.specs.Text.Form.{HasFault, HasNoItem}
+use Rattle.cdb_form.specs.Text.Form.{HasFault, HasNoItem, Spelled}
 use Rattle.cdb_form.specs.Text.Native.{Spells}
-use Rattle.cdb_form.specs.Views.Prefix.{BeginsWithRecord}
-use Rattle.cdb_form.specs.Views.Source.{IsTold, at_hand, budget}
+use Rattle.cdb_form.specs.Views.Source.{IsTold, Takes, budget}
 use Rattle.cdb_form.specs.Views.TextFault.{IsOfText, IsReadFault, LastRead}
 use Rattle.cdb_form.specs.declared.text.fault.TextFault.{TextFault}
 use Rattle.cdb_form.specs.declared.text.fault.TextFault.TheVariants.{Ended}
@@ -38,12 +36,6 @@ HasEnded t = t.going ≡ AtEnd
 -- it has answered this fault
 abbrev pub HasFailed : {R L : Type 0} → FormReader R L → TextFault → Type 0
 HasFailed t fault = t.going ≡ Failed fault
-
--- the next item is a record that is whole at hand, spelled by n bytes there
-pub record HasPeeked {R L : Type 0} (held : R → List ℕ) (greatest : ℕ) (t : FormReader R L) (n : ℕ)
-    (r : KeyValue) : Type 0 where
-  pub going : IsGoing t
-  pub begins : BeginsWithRecord greatest (at_hand held t.source) n r
 
 -- what was read of a text, from the count `from` to the count `to`, is the start of a text, and no
 -- whole one; no whole item is there
@@ -85,6 +77,16 @@ pub record GivesItem {R L X : Type 0} (spelling : ℕ → List ℕ → X → Typ
       old.source.taken new.source.taken x
   pub going : IsGoing new
   pub fewer : asks_left new < asks_left old
+  pub spends : budget old.source ≤ budget new.source
+
+-- a call gave these items, which were spelled by what was left
+pub record GivesItems {R L X : Type 0} (spelling : ℕ → List ℕ → X → Type 0) (greatest : ℕ)
+    (feed : R → Feed) (old new : FormReader R L) (xs : List X) : Type 0 where
+  pub text : List ℕ
+  pub spelled : Spelled spelling greatest xs text []
+  pub takes : Takes feed old.source new.source text
+  pub going : new.going ≡ old.going
+  pub fewer : asks_left new + length xs ≤ asks_left old
   pub spends : budget old.source ≤ budget new.source
 
 -- a call reported the end: the first such call took the newline that ends the text

@@ -1,10 +1,9 @@
 -- What a clause reads of a reader of a map text.
-use Rattle.std.specs.Prelude.{All, List, [], flat_map, ◌++◌, ◌<◌, ◌∷◌, ◌≡◌, ℕ, codes}
+use Rattle.std.specs.Prelude.{All, List, [], flat_map, length, ◌+◌, ◌++◌, ◌<◌, ◌∷◌, ◌≡◌, ◌≤◌, ℕ, codes}
 use Rattle.cdb_form.specs.Format.{KeyValue}
 use Rattle.cdb_form.specs.Text.Map.{IsIgnoredLine, IsLineOf, Lacks, is_newline, line_records, with_newlines}
 use Rattle.cdb_form.specs.Views.MapParser.{ReadsToEnding}
-use Rattle.cdb_form.specs.Views.Prefix.{BeginsWithLine}
-use Rattle.cdb_form.specs.Views.Source.{LeavesAmid, at_hand}
+use Rattle.cdb_form.specs.Views.Source.{LeavesAmid, Takes, budget}
 use Rattle.cdb_form.specs.declared.text.fault.TextFault.{TextFault}
 use Rattle.cdb_form.specs.declared.text.going.Going.TheVariants.{AtEnd, Failed, On}
 use Rattle.cdb_form.specs.declared.text.map_reader.MapReader.{MapReader}
@@ -36,12 +35,6 @@ HasEnded t = t.going ≡ AtEnd
 -- it has answered this fault
 abbrev pub HasFailed : {R : Type 0} → MapReader R → TextFault → Type 0
 HasFailed t fault = t.going ≡ Failed fault
-
--- the next line is that of a record and is whole at hand, n bytes there with its newline
-pub record HasPeeked {R : Type 0} (held : R → List ℕ) (t : MapReader R) (n : ℕ) (r : KeyValue) :
-    Type 0 where
-  pub going : IsGoing t
-  pub begins : BeginsWithLine (at_hand held t.source) n r
 
 -- ignored lines, and then a part of one more line: no record's line is whole there
 pub record IsAmidLines (bytes : List ℕ) : Type 0 where
@@ -102,6 +95,16 @@ pub record GivesRecord {R : Type 0} (feed : R → Feed) (old new : MapReader R)
   pub reads : ReadsLinesOf feed old.source new.source r ending
   pub going : GoesOn ending new
   pub fewer : asks_left new < asks_left old
+
+-- a call gave these records: their lines were the first ones unread
+pub record GivesRecords {R : Type 0} (feed : R → Feed) (old new : MapReader R) (rs : List KeyValue) :
+    Type 0 where
+  pub text : List ℕ
+  pub lines : ReadLines text [] rs
+  pub takes : Takes feed old.source new.source text
+  pub going : new.going ≡ old.going
+  pub fewer : asks_left new + length rs ≤ asks_left old
+  pub spends : budget old.source ≤ budget new.source
 
 -- a call reported the end: the first such call read ignored lines alone, unless the last record came
 -- with the end; then nothing is read

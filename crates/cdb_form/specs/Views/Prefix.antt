@@ -1,20 +1,12 @@
 -- What bytes of a native text begin with, and those of a database file.
-use Rattle.std.specs.Prelude.{List, drop, length, take, [], codes, ◌+◌, ◌++◌, ◌∷◌, ◌≡◌, ◌<◌, ◌≤◌, ℕ, Option, Some, None, Bool, nat_le, not, ◌==◌}
+use Rattle.std.specs.Prelude.{List, drop, length, take, codes, ◌+◌, ◌++◌, ◌≡◌, ◌<◌, ◌≤◌, ℕ, Option, Some, None, Bool, nat_le, not, ◌==◌}
 use Rattle.cdb_form.specs.Format.{KeyValue, prefix_record, prefix_size}
 use Rattle.cdb_form.specs.Text.Native.{IsNumeral, Spells}
 use Rattle.cdb_form.specs.declared.text.prefix.PrefixLengths.{PrefixLengths}
-use Rattle.cdb_form.specs.declared.text.prefix.PrefixNumeral.{PrefixNumeral}
-use Rattle.cdb_form.specs.declared.text.prefix.PeekedRecord.{PeekedRecord}
+use Rattle.cdb_form.specs.declared.record.PeekedRecord.{PeekedRecord}
 use Rattle.cdb_form.specs.Text.Map.{IsLineOf, is_newline}
 use Rattle.cdb_form.specs.declared.text.kind.Kind.{Kind}
 use Rattle.cdb_form.specs.declared.text.kind.Kind.TheVariants.{Blank, InLine, InWord}
-
--- a numeral followed by `stop`
-pub record BeginsWithNumeral (stop : ℕ) (bytes : List ℕ) (n : PrefixNumeral) : Type 0 where
-  pub digits : List ℕ
-  pub is : IsNumeral digits n.value
-  pub front : take n.end bytes ≡ digits ++ stop ∷ []
-  pub within : n.end ≤ length bytes
 
 -- what precedes the key of a record, whose lengths are at most `greatest`
 pub record BeginsWithLengths (greatest : ℕ) (bytes : List ℕ) (l : PrefixLengths) : Type 0 where
@@ -67,3 +59,9 @@ pub record BeginsWithLine (bytes : List ℕ) (n : ℕ) (r : KeyValue) : Type 0 w
   pub is : IsLineOf r line
   pub front : take n bytes ≡ line ++ codes "\n"
   pub within : n ≤ length bytes
+
+-- the key, one byte, the value and one byte more are n bytes
+pub record LiesPlainly (bytes : List ℕ) (n : ℕ) (r : KeyValue) : Type 0 where
+  pub key : take (length r.key) bytes ≡ r.key
+  pub value : take (length r.value) (drop (length r.key + 1) bytes) ≡ r.value
+  pub size : length r.key + length r.value + 2 ≡ n

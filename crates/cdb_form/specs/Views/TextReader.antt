@@ -31,10 +31,6 @@ HasEnded t = form.HasEnded t.items
 abbrev pub HasFailed : {R L : Type 0} → TextReader R L → TextFault → Type 0
 HasFailed t fault = form.HasFailed t.items fault
 
--- the next item is a record that is whole at hand, spelled by n bytes there
-abbrev pub HasPeeked : {R L : Type 0} → (R → List ℕ) → ℕ → TextReader R L → ℕ → KeyValue → Type 0
-HasPeeked held greatest t n r = form.HasPeeked held greatest t.items n r
-
 -- what was read of a text, from the count `from` to the count `to`, is the start of a text, and no
 -- whole one; no whole record is there
 abbrev pub StopsAmid : ℕ → ℕ → ℕ → List ℕ → Type 0

@@ -1,18 +1,13 @@
 // Items out of an amending text.
-ghost use Rattle.std.specs.Prelude.{◌≡◌, ◌^◌, ◌≤◌, IfOk, IfErr, IfSome, MatchOption};
-ghost use Rattle.cdb_form.specs.Format.{KeyValue};
-ghost use Rattle.cdb_form.specs.Text.Parse.{Putting};
-ghost use Rattle.cdb_form.specs.Views.Prefix.{shown_by};
+ghost use Rattle.std.specs.Prelude.{◌≡◌, ◌^◌, ◌≤◌, IfOk, IfErr, MatchOption};
 ghost use Rattle.cdb_form.specs.Views.Pairs.{change_in, change_of};
 ghost use Rattle.cdb_form.specs.Views.Feed.{Repeats};
 
 use crate::feeds::Feeds;
 use crate::item::{Item, ItemKind};
 use crate::record::Record;
-use crate::text::at_hand::AtHand;
 use crate::text::fault::TextFault;
 use crate::text::form_reader::FormReader;
-use crate::text::prefix::PeekedRecord;
 use crate::width::Width;
 use std::alloc::Global;
 
@@ -28,7 +23,7 @@ pub struct AmendReader<R, L> {
 }
 
 impl<R: Feeds, L: Width> AmendReader<R, L> {
-    ghost use Rattle.cdb_form.specs.Views.AmendReader.{reader_of, taken_of, asks_left, IsGoing, HasEnded, HasFailed, HasPeeked, GivesChange, GivesEnd, Fails};
+    ghost use Rattle.cdb_form.specs.Views.AmendReader.{reader_of, taken_of, asks_left, IsGoing, HasEnded, HasFailed, GivesChange, GivesEnd, Fails};
 
     /// A reader of the text that `reader` gives. It may request bytes 2^48 times.
     pub fn new(alloc: Global, reader: R) -> AmendReader<R, L>
@@ -96,26 +91,5 @@ impl<R: Feeds, L: Width> AmendReader<R, L> {
             → Repeats (Err fault) self.old self.new result }
     {
         self.items.read_into(into, true)
-    }
-
-    /// Returns the record that the next item puts, where it lies, if it is whole at hand. It takes
-    /// nothing: `take_peeked` does that.
-    #[inline(always)]
-    pub fn peek<A: AtHand<R>>(&self) -> Option<PeekedRecord<'_>>
-        ensures { IfSome result (λ f.
-            HasPeeked A.held L.GREATEST self.now f.len (shown_by f)) }
-    {
-        self.items.peek::<A>()
-    }
-
-    /// Takes the record that `peek` shows, whose `len` this is. Each of its bytes counts as a
-    /// request.
-    #[inline(always)]
-    pub fn take_peeked<A: AtHand<R>>(&mut self, len: usize)
-        requires { (r : KeyValue) × HasPeeked A.held L.GREATEST self.old len r }
-        ensures { (r : KeyValue) → HasPeeked A.held L.GREATEST self.old len r
-            → GivesChange L.GREATEST R.feed self.old self.new (Putting r) }
-    {
-        self.items.take_peeked::<A>(len);
     }
 }

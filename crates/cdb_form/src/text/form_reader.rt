@@ -1,8 +1,8 @@
 // Items out of a text of either form: what `TextReader` and `AmendReader` are made of.
-ghost use Rattle.std.specs.Prelude.{◌≡◌, ◌≢◌, ◌≤◌, ◌^◌, false, Some, IfOk, IfErr, IfSome, MatchOption};
-ghost use Rattle.cdb_form.specs.Format.{KeyValue};
-ghost use Rattle.cdb_form.specs.Text.Parse.{Putting, SpellsChange};
-ghost use Rattle.cdb_form.specs.Views.Prefix.{shown_by};
+ghost use Rattle.std.specs.Prelude.{◌≡◌, ◌≢◌, ◌+◌, ◌≤◌, ◌^◌, length, false, Some, IfOk, IfErr, MatchOption};
+ghost use Rattle.cdb_form.specs.Text.Native.{Spells};
+ghost use Rattle.cdb_form.specs.Text.Parse.{SpellsChange};
+ghost use Rattle.cdb_form.specs.Views.Fill.{Fills};
 ghost use Rattle.cdb_form.specs.Views.Pairs.{change_in};
 ghost use Rattle.cdb_form.specs.declared.item.ItemKind.TheVariants.{Remove};
 ghost use Rattle.cdb_form.specs.Views.Feed.{Repeats};
@@ -12,8 +12,8 @@ use crate::item::ItemKind;
 use crate::record::Record;
 use crate::text::at_hand::AtHand;
 use crate::text::fault::TextFault;
+use crate::text::fill::{Filled, fill};
 use crate::text::going::Going;
-use crate::text::prefix::{PeekedRecord, prefix_record};
 use crate::text::source::Source;
 use crate::width::Width;
 use std::marker::PhantomData;
@@ -27,7 +27,7 @@ pub struct FormReader<R, L> {
 }
 
 impl<R: Feeds, L: Width> FormReader<R, L> {
-    ghost use Rattle.cdb_form.specs.Views.FormReader.{FailsAs, GivesEnd, GivesItem, HasEnded, HasFailed, HasPeeked, IsGoing, asks_left, reader_of, taken_of};
+    ghost use Rattle.cdb_form.specs.Views.FormReader.{FailsAs, GivesEnd, GivesItem, GivesItems, HasEnded, HasFailed, IsGoing, asks_left, reader_of, taken_of};
 
     /// A reader of the text that `reader` gives. It may request bytes `asks` times.
     pub fn new(reader: R, asks: u64) -> FormReader<R, L>
@@ -51,26 +51,25 @@ impl<R: Feeds, L: Width> FormReader<R, L> {
         self.source.reader
     }
 
-    /// The record that the next item puts, if it is whole at hand. Nothing is taken.
+    /// Puts the records at hand behind the first `held` bytes of a buffer, as long as there is room,
+    /// and takes them. Each of their bytes counts as a request.
     #[inline(always)]
-    pub fn peek<A: AtHand<R>>(&self) -> Option<PeekedRecord<'_>>
-        ensures { IfSome result (λ f.
-            HasPeeked A.held L.GREATEST self.now f.len (shown_by f)) }
+    pub fn fill<A: AtHand<R>>(&mut self, into: &mut [u8], held: usize) -> Filled
+        requires { held ≤ length into.old }
+        ensures fills { Fills (GivesItems Spells L.GREATEST R.feed self.old self.new)
+            L.WORD L.TOP into.old into.new held result }
+        ensures taken { taken_of self.new ≡ taken_of self.old + result.taken }
+        ensures stopped { (IsGoing self.old → ⊥)
+            → (self.new ≡ self.old) × (into.new ≡ into.old) × (result.count ≡ 0) }
     {
         match self.going {
-            Going::On => prefix_record(self.source.at_hand::<A>(), L::GREATEST),
-            Going::AtEnd | Going::Failed(_) => None,
+            Going::On => {
+                let filled = fill::<L>(self.source.at_hand::<A>(), into, held);
+                self.source.take_at_hand::<A>(filled.taken);
+                filled
+            }
+            Going::AtEnd | Going::Failed(_) => Filled::none(held),
         }
-    }
-
-    /// Takes the record that `peek` shows. Each of its bytes counts as a request.
-    #[inline(always)]
-    pub fn take_peeked<A: AtHand<R>>(&mut self, len: usize)
-        requires { (r : KeyValue) × HasPeeked A.held L.GREATEST self.old len r }
-        ensures { (r : KeyValue) → HasPeeked A.held L.GREATEST self.old len r
-            → GivesItem SpellsChange L.GREATEST R.feed self.old self.new (Putting r) }
-    {
-        self.source.take_at_hand::<A>(len);
     }
 
     /// Reads the next item over a record, and returns its kind: none is at the newline that ends

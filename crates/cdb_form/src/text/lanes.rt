@@ -1,5 +1,5 @@
 // Bytes that are looked at 16 or 32 at a time.
-ghost use Rattle.std.specs.Prelude.{◌≡◌, true, ℕ, ◌<◌, ◌≤◌, length, map, slice_index};
+ghost use Rattle.std.specs.Prelude.{◌≡◌, true, ℕ, ◌%◌, ◌+◌, ◌<◌, ◌≤◌, length, map, nat_le, slice_index};
 ghost use Rattle.std.specs.Simd.Lanes.{mask_l};
 ghost use Rattle.cdb_form.specs.Views.Prefix.{may_end};
 ghost use Rattle.cdb_form.specs.Views.MapParser.{is_of};
@@ -26,6 +26,16 @@ fn word_ends(bytes: u8x16) -> u64
     ensures { result ≡ mask_l (map (may_end InWord) bytes) }
 {
     bytes.simd_le(u8x16::splat(b' ')).to_bitmask()
+}
+
+/// Returns a bit for each of 16 bytes: 1 if the byte is no digit.
+#[inline(always)]
+pub(crate) fn digit_ends(bytes: u8x16) -> u64
+    ensures { result ≡ mask_l (map (λ c. nat_le 10 ((c + 208) % 256)) bytes) }
+{
+    (bytes - u8x16::splat(b'0'))
+        .simd_ge(u8x16::splat(10))
+        .to_bitmask()
 }
 
 /// Returns the number of bytes of a word that some bytes begin with, as far as whole 16 show it:

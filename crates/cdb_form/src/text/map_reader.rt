@@ -1,7 +1,6 @@
 // Records out of a map text.
-ghost use Rattle.std.specs.Prelude.{◌≡◌, ◌^◌, ◌≤◌, false, IfOk, IfErr, IfSome, MatchOption, MatchBool};
-ghost use Rattle.cdb_form.specs.Format.{KeyValue};
-ghost use Rattle.cdb_form.specs.Views.Prefix.{shown_by};
+ghost use Rattle.std.specs.Prelude.{◌≡◌, ◌+◌, ◌^◌, ◌≤◌, length, false, IfOk, IfErr, MatchOption, MatchBool};
+ghost use Rattle.cdb_form.specs.Views.Fill.{Fills};
 ghost use Rattle.cdb_form.specs.Views.Pairs.{key_value};
 ghost use Rattle.cdb_form.specs.Views.Feed.{Repeats};
 
@@ -9,11 +8,11 @@ use crate::feeds::Feeds;
 use crate::record::Record;
 use crate::text::at_hand::{AtHand, NoneAtHand};
 use crate::text::fault::TextFault;
+use crate::text::fill::{Filled, fill_lines};
 use crate::text::going::Going;
 use crate::text::map_parser::Entry;
-use crate::text::prefix::PeekedRecord;
-use crate::text::prefix_line::prefix_line;
 use crate::text::source::Source;
+use crate::width::Width;
 use std::alloc::Global;
 
 /// Reads the records of a map text, one after the other.
@@ -29,7 +28,7 @@ pub struct MapReader<R> {
 }
 
 impl<R: Feeds> MapReader<R> {
-    ghost use Rattle.cdb_form.specs.Views.MapReader.{reader_of, taken_of, asks_left, IsGoing, HasEnded, HasFailed, HasPeeked, GivesRecord, GivesEnd, Fails};
+    ghost use Rattle.cdb_form.specs.Views.MapReader.{reader_of, taken_of, asks_left, IsGoing, HasEnded, HasFailed, GivesRecord, GivesRecords, GivesEnd, Fails};
 
     /// A reader of the text that `reader` gives. It may request bytes 2^48 times.
     pub fn new(alloc: Global, reader: R) -> MapReader<R>
@@ -128,26 +127,24 @@ impl<R: Feeds> MapReader<R> {
         }
     }
 
-    /// Returns the next record, where it lies, if its line is whole at hand, with its newline, and
-    /// no ignored line precedes it. It takes nothing: `take_peeked` does that.
+    /// Puts the records at hand behind the first `held` bytes of a buffer, as long as there is room,
+    /// and takes them. Each of their bytes counts as a request.
     #[inline(always)]
-    pub fn peek<A: AtHand<R>>(&self) -> Option<PeekedRecord<'_>>
-        ensures { IfSome result (λ f. HasPeeked A.held self.now f.len (shown_by f)) }
+    pub fn fill<L: Width, A: AtHand<R>>(&mut self, into: &mut [u8], held: usize) -> Filled
+        requires { held ≤ length into.old }
+        ensures fills { Fills (GivesRecords R.feed self.old self.new)
+            L.WORD L.TOP into.old into.new held result }
+        ensures taken { taken_of self.new ≡ taken_of self.old + result.taken }
+        ensures stopped { (IsGoing self.old → ⊥)
+            → (self.new ≡ self.old) × (into.new ≡ into.old) × (result.count ≡ 0) }
     {
         match self.going {
-            Going::On => prefix_line(self.source.at_hand::<A>()),
-            Going::AtEnd | Going::Failed(_) => None,
+            Going::On => {
+                let filled = fill_lines::<L>(self.source.at_hand::<A>(), into, held);
+                self.source.take_at_hand::<A>(filled.taken);
+                filled
+            }
+            Going::AtEnd | Going::Failed(_) => Filled::none(held),
         }
-    }
-
-    /// Takes the record that `peek` shows, whose `len` this is. Each of its bytes counts as a
-    /// request.
-    #[inline(always)]
-    pub fn take_peeked<A: AtHand<R>>(&mut self, len: usize)
-        requires { (r : KeyValue) × HasPeeked A.held self.old len r }
-        ensures { (r : KeyValue) → HasPeeked A.held self.old len r
-            → GivesRecord R.feed self.old self.new r }
-    {
-        self.source.take_at_hand::<A>(len);
     }
 }

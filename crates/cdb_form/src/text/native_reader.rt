@@ -1,16 +1,12 @@
 // Records out of a native text.
-ghost use Rattle.std.specs.Prelude.{◌≡◌, ◌^◌, ◌≤◌, false, IfOk, IfErr, IfSome, MatchOption, MatchBool};
-ghost use Rattle.cdb_form.specs.Format.{KeyValue};
-ghost use Rattle.cdb_form.specs.Views.Prefix.{shown_by};
+ghost use Rattle.std.specs.Prelude.{◌≡◌, ◌^◌, ◌≤◌, false, IfOk, IfErr, MatchOption, MatchBool};
 ghost use Rattle.cdb_form.specs.Views.Pairs.{key_value};
 ghost use Rattle.cdb_form.specs.Views.Feed.{Repeats};
 
 use crate::feeds::Feeds;
 use crate::record::Record;
-use crate::text::at_hand::AtHand;
 use crate::text::fault::TextFault;
 use crate::text::form_reader::FormReader;
-use crate::text::prefix::PeekedRecord;
 use crate::width::Width;
 use std::alloc::Global;
 
@@ -25,7 +21,7 @@ pub struct TextReader<R, L> {
 }
 
 impl<R: Feeds, L: Width> TextReader<R, L> {
-    ghost use Rattle.cdb_form.specs.Views.TextReader.{reader_of, taken_of, asks_left, IsGoing, HasEnded, HasFailed, HasPeeked, GivesRecord, GivesEnd, Fails};
+    ghost use Rattle.cdb_form.specs.Views.TextReader.{reader_of, taken_of, asks_left, IsGoing, HasEnded, HasFailed, GivesRecord, GivesEnd, Fails};
 
     /// A reader of the text that `reader` gives. It may request bytes 2^48 times.
     pub fn new(alloc: Global, reader: R) -> TextReader<R, L>
@@ -91,26 +87,5 @@ impl<R: Feeds, L: Width> TextReader<R, L> {
     {
         let found = self.items.read_into(into, false)?;
         Ok(found.is_some())
-    }
-
-    /// Returns the next record, where it lies, if it is whole at hand. It takes nothing:
-    /// `take_peeked` does that.
-    #[inline(always)]
-    pub fn peek<A: AtHand<R>>(&self) -> Option<PeekedRecord<'_>>
-        ensures { IfSome result (λ f.
-            HasPeeked A.held L.GREATEST self.now f.len (shown_by f)) }
-    {
-        self.items.peek::<A>()
-    }
-
-    /// Takes the record that `peek` shows, whose `len` this is. Each of its bytes counts as a
-    /// request.
-    #[inline(always)]
-    pub fn take_peeked<A: AtHand<R>>(&mut self, len: usize)
-        requires { (r : KeyValue) × HasPeeked A.held L.GREATEST self.old len r }
-        ensures { (r : KeyValue) → HasPeeked A.held L.GREATEST self.old len r
-            → GivesRecord L.GREATEST R.feed self.old self.new r }
-    {
-        self.items.take_peeked::<A>(len);
     }
 }

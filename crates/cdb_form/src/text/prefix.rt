@@ -1,27 +1,11 @@
-// The record of a native text that some bytes begin with.
-ghost use Rattle.std.specs.Prelude.{◌≡◌, true, ◌+◌, ◌<◌, ◌≤◌, IfOk, IfSome};
-ghost use Rattle.cdb_form.specs.Views.Prefix.{BeginsWithBody, BeginsWithLengths, BeginsWithNumeral};
-ghost use Rattle.cdb_form.specs.Views.Prefix.{BeginsWithRecord, shown_by};
+// The parts of the record of a native text that some bytes begin with.
+ghost use Rattle.std.specs.Prelude.{◌≡◌, true, ◌+◌, ◌<◌, ◌≤◌, length, take};
+ghost use Rattle.std.specs.Str.Parse.{AllDigits, digits_value};
+ghost use Rattle.cdb_form.specs.Views.Prefix.{BeginsWithBody, BeginsWithLengths};
 
-/// A numeral that has this value or more takes no further digit: such a length is never at hand.
-const LONG: u64 = 100_000_000;
-
-/// A numeral that some bytes begin with.
-#[derive(Clone, Copy)]
-pub(crate) struct PrefixNumeral {
-    pub(crate) value: u64,
-    /// The place after the byte that ends the numeral, or 0 if there is no numeral.
-    pub(crate) end: usize,
-}
-
-/// A record that a reader has at hand, where it is.
-#[derive(Clone, Copy)]
-pub struct PeekedRecord<'a> {
-    pub key: &'a [u8],
-    pub value: &'a [u8],
-    /// The number of the reader's bytes that spell the record.
-    pub len: usize,
-}
+use crate::text::lanes::digit_ends;
+use byteorder::{ByteOrder, LittleEndian};
+use std::simd::prelude::*;
 
 /// The lengths of a record that some bytes begin with.
 #[derive(Clone, Copy)]
@@ -32,91 +16,65 @@ pub(crate) struct PrefixLengths {
     pub(crate) end: usize,
 }
 
-/// The short numeral that some bytes begin with, with `stop` after it. If there is none, its end is
-/// 0: an `Option` of it would be cleared for each record.
+/// The number of the 1 to 4 digits that some bytes begin with.
 #[inline(always)]
-fn numeral(bytes: &[u8], stop: u8) -> PrefixNumeral
-    ensures begins { 0 < result.end → BeginsWithNumeral stop bytes.now result }
-    ensures short { result.value < 1000000000 }
+fn short_number(bytes: &[u8], digits: u32) -> usize
+    requires long { 4 ≤ length bytes.now }
+    requires some { 1 ≤ digits }
+    requires few { digits ≤ 4 }
+    requires each { AllDigits 10 (take digits bytes.now) }
+    ensures value { digits_value 10 (take digits bytes.now) ≡ result }
+    ensures short { result < 10000 }
 {
-    let mut value = 0;
-    let mut place = 0;
-    while place < bytes.len() && value < LONG {
-        let byte = bytes[place];
-        if !byte.is_ascii_digit() {
-            let is_whole = byte == stop && 0 < place;
-            return PrefixNumeral {
-                value,
-                end: if is_whole { place + 1 } else { 0 },
-            };
-        }
-        value = value * 10 + u64::from(byte - b'0');
-        place += 1;
-    }
-    PrefixNumeral { value, end: 0 }
+    let word = LittleEndian::read_u32(bytes);
+    let ends = (word << (32 - 8 * digits)) & 0x0f0f0f0f;
+    let tens = ends.wrapping_mul(10).wrapping_add(ends >> 8) & 0x00ff00ff;
+    (tens.wrapping_mul(100).wrapping_add(tens >> 16) & 0xffff) as usize
 }
 
-/// Does what `numeral` does, not inlined: numerals of more than three digits are rare.
-#[cold]
-#[inline(never)]
-fn long_numeral(bytes: &[u8], stop: u8) -> PrefixNumeral
-    ensures begins { 0 < result.end → BeginsWithNumeral stop bytes.now result }
-    ensures short { result.value < 1000000000 }
-{
-    numeral(bytes, stop)
-}
-
-/// The short numeral of a record that some bytes begin with, with `stop` after it. A whole record
-/// has at least four bytes left, and over four bytes the loop of `numeral` is unrolled.
+/// The lengths, neither above `greatest`, of the record that some bytes begin with, if each has 1 to
+/// 4 digits. If there are none, their end is 0.
 #[inline(always)]
-fn prefix_numeral(bytes: &[u8], stop: u8) -> PrefixNumeral
-    ensures begins { 0 < result.end → BeginsWithNumeral stop bytes.now result }
-    ensures short { result.value < 1000000000 }
-{
-    if bytes.len() < 4 {
-        return PrefixNumeral { value: 0, end: 0 };
-    }
-    let found = numeral(&bytes[..4], stop);
-    if found.end != 0 {
-        return found;
-    }
-    long_numeral(bytes, stop)
-}
-
-/// The lengths, neither above `greatest`, of the record that some bytes begin with. If there are
-/// none, their end is 0.
-#[inline(always)]
-fn prefix_lengths(bytes: &[u8], greatest: u64) -> PrefixLengths
+pub(crate) fn short_lengths(bytes: &[u8], greatest: u64) -> PrefixLengths
+    requires { 16 ≤ length bytes.now }
     ensures begins { 0 < result.end → BeginsWithLengths greatest bytes.now result }
-    ensures short { (result.klen < 1000000000) × (result.vlen < 1000000000) }
+    ensures short { (result.klen < 10000) × (result.vlen < 10000) }
 {
     let none = PrefixLengths {
         klen: 0,
         vlen: 0,
         end: 0,
     };
-    if bytes.is_empty() || bytes[0] != b'+' {
+    if bytes[0] != b'+' {
         return none;
     }
-    let klen = prefix_numeral(&bytes[1..], b',');
-    if klen.end == 0 {
+    let ends = digit_ends(u8x16::from_slice(bytes));
+    let behind = ends & ends.wrapping_sub(1);
+    let comma = behind.trailing_zeros();
+    let rest = behind & behind.wrapping_sub(1);
+    let colon = rest.trailing_zeros();
+    if comma.wrapping_sub(2) > 3 || colon.wrapping_sub(comma + 2) > 3 {
         return none;
     }
-    let at = 1 + klen.end;
-    let vlen = prefix_numeral(&bytes[at..], b':');
-    if vlen.end == 0 || greatest < klen.value || greatest < vlen.value {
+    if bytes[comma as usize] != b',' || bytes[colon as usize] != b':' {
+        return none;
+    }
+    let klen = short_number(&bytes[1..5], comma - 1);
+    let at = comma as usize + 1;
+    let vlen = short_number(&bytes[at..at + 4], colon - comma - 1);
+    if greatest < klen as u64 || greatest < vlen as u64 {
         return none;
     }
     PrefixLengths {
-        klen: klen.value as usize,
-        vlen: vlen.value as usize,
-        end: at + vlen.end,
+        klen,
+        vlen,
+        end: colon as usize + 1,
     }
 }
 
 /// Returns true if some bytes begin with a key and a value of these lengths, with their marks.
 #[inline(always)]
-fn has_body(bytes: &[u8], klen: usize, vlen: usize) -> bool
+pub(crate) fn has_body(bytes: &[u8], klen: usize, vlen: usize) -> bool
     requires { klen + vlen < 2000000000 }
     ensures { result ≡ true → BeginsWithBody klen vlen bytes.now }
 {
@@ -127,25 +85,4 @@ fn has_body(bytes: &[u8], klen: usize, vlen: usize) -> bool
         return false;
     }
     bytes[klen + 2 + vlen] == b'\n'
-}
-
-/// The record that some bytes begin with, if it is whole there.
-#[inline(always)]
-pub(crate) fn prefix_record(bytes: &[u8], greatest: u64) -> Option<PeekedRecord<'_>>
-    ensures { IfSome result (λ f. BeginsWithRecord greatest bytes.now f.len (shown_by f)) }
-{
-    let lengths = prefix_lengths(bytes, greatest);
-    if lengths.end == 0 {
-        return None;
-    }
-    let (klen, vlen) = (lengths.klen, lengths.vlen);
-    let body = &bytes[lengths.end..];
-    if !has_body(body, klen, vlen) {
-        return None;
-    }
-    Some(PeekedRecord {
-        key: &body[..klen],
-        value: &body[klen + 2..klen + 2 + vlen],
-        len: lengths.end + (klen + vlen + 3),
-    })
 }

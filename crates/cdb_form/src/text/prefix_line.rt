@@ -2,15 +2,14 @@
 ghost use Rattle.std.specs.Prelude.{◌≡◌, true, ℕ, ◌<◌, ◌≤◌, length, slice_index, IfOk, IfSome};
 ghost use Rattle.std.specs.List.{prefix_len};
 ghost use Rattle.cdb_form.specs.Text.Map.{is_blank};
-ghost use Rattle.cdb_form.specs.Views.Prefix.{shown_by, BeginsWithLine};
+ghost use Rattle.cdb_form.specs.Views.Prefix.{shown_by, BeginsWithLine, LiesPlainly};
 ghost use Rattle.cdb_form.specs.Views.MapParser.{is_of};
 ghost use Rattle.cdb_form.specs.Views.Pairs.{key_value};
 
 use crate::copying::copy_over;
-use crate::record::Record;
+use crate::record::{PeekedRecord, Record};
 use crate::text::kind::Kind;
 use crate::text::lanes::{wide_run, word_run};
-use crate::text::prefix::PeekedRecord;
 use std::alloc::AllocError;
 
 /// Returns the number of bytes of a kind that `bytes` begins with. The first `known` bytes are
@@ -52,8 +51,9 @@ fn run(kind: Kind, bytes: &[u8]) -> usize
 /// lines do. None is found near the end of the bytes, nor if a byte up to `#` begins the key, or
 /// one up to a space the value.
 #[inline(always)]
-fn plain_line(bytes: &[u8]) -> Option<PeekedRecord<'_>>
-    ensures { IfSome result (λ f. BeginsWithLine bytes.now f.len (shown_by f)) }
+pub(crate) fn plain_line(bytes: &[u8]) -> Option<PeekedRecord<'_>>
+    ensures begins { IfSome result (λ f. BeginsWithLine bytes.now f.len (shown_by f)) }
+    ensures plain { IfSome result (λ f. LiesPlainly bytes.now f.len (shown_by f)) }
 {
     let klen = word_run(bytes);
     if klen == bytes.len() || bytes[0] <= b'#' || bytes[klen] != b' ' {

@@ -1,10 +1,10 @@
 // The record of a database file that some bytes begin with.
-ghost use Rattle.std.specs.Prelude.{◌≡◌, ◌<◌, IfOk, IfSome, OnOk};
+ghost use Rattle.std.specs.Prelude.{◌<◌, IfSome};
 ghost use Rattle.cdb_form.specs.Views.Prefix.{IsStored, PrefixTells, shown_by};
 
 use crate::header::read_header;
 use crate::pair::pair_size;
-use crate::text::prefix::PeekedRecord;
+use crate::record::PeekedRecord;
 use crate::width::Width;
 
 /// Returns the number of bytes that the record has that some bytes begin with, or `None` if they

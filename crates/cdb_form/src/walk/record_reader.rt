@@ -10,9 +10,8 @@ ghost use Rattle.cdb_form.specs.Views.Prefix.{shown_by};
 ghost use Rattle.cdb_form.specs.Views.Feed.{Repeats};
 
 use crate::feeds::Feeds;
-use crate::record::Record;
+use crate::record::{PeekedRecord, Record};
 use crate::text::at_hand::{AtHand, window_within};
-use crate::text::prefix::PeekedRecord;
 use crate::walk::fault::WalkFault;
 use crate::walk::keeping::Keeping;
 use crate::walk::next_record::read_record;

@@ -1,9 +1,10 @@
 // Native and amending texts through windows of all sizes, over readers that give a byte, two, or
 // all: each is read as byte by byte, with the same fault, and as far.
 use super::through::{InThrough, Through};
-use super::windows::{Dripping, MOST, SIZES};
+use super::windows::{Dripping, MOST, ROOM, SIZES, WIDE, joined, show, show_filled};
 use cdb_form::{
-    AmendReader, AtHand, ItemKind, Narrow, NoneAtHand, Record, TextFault, TextReader, Wide, Width,
+    AmendReader, AtHand, FormReader, ItemKind, Narrow, NoneAtHand, Record, TextFault, TextReader,
+    Wide, Width,
 };
 use std::alloc::{AllocError, Global};
 use std::io::{self, Read};
@@ -63,6 +64,13 @@ const TEXTS: [&[u8]; 49] = [
     b"-1:a\n-1:a\n",
 ];
 
+/// Items before a text and behind it: with so many bytes after them, those before it and in it may
+/// fill a buffer.
+const BESIDE: (&[u8], &[u8]) = (
+    b"+3,5:one->Hello\n+12,72:a longer key->a value of seventy-two bytes, more than the piece that is copied at once\n+00003,05:two->Hello\n",
+    b"+1,1:a->b\n+1,1:a->c\n+1,1:a->d\n+1,1:a->e\n+1,1:a->f\n+1,1:a->g\n+1,1:a->h\n+1,1:a->i\n\n",
+);
+
 /// An input that a reader of a text or of a file is lent, so that what it left can be seen.
 #[derive(Drop)]
 pub(super) struct Lent<'a, 'b> {
@@ -100,6 +108,8 @@ enum Form {
     Amending,
 }
 
+const FORMS: [Form; 3] = [Form::Native, Form::WideNative, Form::Amending];
+
 /// What was read of a text: its items, shown, its fault, and what was left.
 #[derive(Drop)]
 struct Outcome {
@@ -114,24 +124,16 @@ fn is_same(one: &Outcome, other: &Outcome) -> bool {
         && one.rest.as_slice() == other.rest.as_slice()
 }
 
-/// Puts some parts after others.
-fn append(parts: [&[u8]; 5], shown: &mut Vec<u8>) -> Result<(), AllocError> {
-    for part in parts {
-        shown.extend_from_slice(part)?;
-    }
-    Ok(())
-}
-
-/// Puts a record as `<key|value>` after others.
-fn show_record(key: &[u8], value: &[u8], shown: &mut Vec<u8>) -> Result<(), AllocError> {
-    append([b"<", key, b"|", value, b">"], shown)
-}
-
 /// Puts a record as `<key|value>` after others, or a removal as `[key]`.
-fn show(kind: ItemKind, record: &Record, shown: &mut Vec<u8>) -> Result<(), AllocError> {
+fn show_item(kind: ItemKind, record: &Record, shown: &mut Vec<u8>) -> Result<(), AllocError> {
     match kind {
-        ItemKind::Put => show_record(&record.key, &record.value, shown),
-        ItemKind::Remove => append([b"[", &record.key, b"]", b"", b""], shown),
+        ItemKind::Put => show(&record.key, &record.value, shown),
+        ItemKind::Remove => {
+            shown.push(b'[')?;
+            shown.extend_from_slice(&record.key)?;
+            shown.push(b']')?;
+            Ok(())
+        }
     }
 }
 
@@ -143,47 +145,63 @@ fn no_record(alloc: Global) -> Record {
     }
 }
 
-/// Shows the next record of a native text, from where it lies if it is whole at hand, and answers
-/// whether there is one.
-fn show_native<L: Width, R: Read, A: AtHand<R>>(
+/// Shows the next record of a native text, and answers whether there is one.
+fn show_native<L: Width, R: Read>(
     texts: &mut TextReader<R, L>,
     record: &mut Record,
     shown: &mut Vec<u8>,
 ) -> Result<bool, TextFault> {
-    if let Some(peeked) = texts.peek::<A>() {
-        let len = peeked.len;
-        show_record(peeked.key, peeked.value, shown)?;
-        texts.take_peeked::<A>(len);
-        return Ok(true);
-    }
     let given = texts.read_into(record)?;
     if given {
-        show(ItemKind::Put, record, shown)?;
+        show_item(ItemKind::Put, record, shown)?;
     }
     Ok(given)
 }
 
 /// Shows the next item of an amending text likewise.
-fn show_amending<R: Read, A: AtHand<R>>(
+fn show_amending<R: Read>(
     changes: &mut AmendReader<R, Narrow>,
     record: &mut Record,
     shown: &mut Vec<u8>,
 ) -> Result<bool, TextFault> {
-    if let Some(peeked) = changes.peek::<A>() {
-        let len = peeked.len;
-        show_record(peeked.key, peeked.value, shown)?;
-        changes.take_peeked::<A>(len);
-        return Ok(true);
-    }
     let Some(kind) = changes.read_into(record)? else {
         return Ok(false);
     };
-    show(kind, record, shown)?;
+    show_item(kind, record, shown)?;
+    Ok(true)
+}
+
+/// Shows the records that fill a buffer, and answers whether there are any.
+fn show_filling<L: Width, R: Read, A: AtHand<R>>(
+    items: &mut FormReader<R, L>,
+    buffer: &mut [u8],
+    shown: &mut Vec<u8>,
+) -> Result<bool, AllocError> {
+    let filled = items.fill::<A>(buffer, 0);
+    show_filled::<L>(filled, buffer, shown)?;
+    Ok(0 < filled.count)
+}
+
+/// Shows the next items of a text of either form: those that fill a buffer, or else the next one.
+fn show_either<L: Width, R: Read, A: AtHand<R>>(
+    items: &mut FormReader<R, L>,
+    removals: bool,
+    record: &mut Record,
+    buffer: &mut [u8],
+    shown: &mut Vec<u8>,
+) -> Result<bool, TextFault> {
+    if show_filling::<L, R, A>(items, buffer, shown)? {
+        return Ok(true);
+    }
+    let Some(kind) = items.read_into(record, removals)? else {
+        return Ok(false);
+    };
+    show_item(kind, record, shown)?;
     Ok(true)
 }
 
 /// The records of a native text, shown, and the fault after them.
-fn read_native<L: Width, R: Read + Drop, A: AtHand<R>>(
+fn read_native<L: Width, R: Read + Drop>(
     alloc: Global,
     reader: R,
     shown: &mut Vec<u8>,
@@ -191,7 +209,7 @@ fn read_native<L: Width, R: Read + Drop, A: AtHand<R>>(
     let mut texts: TextReader<R, L> = TextReader::new(alloc, reader);
     let mut record = no_record(alloc);
     for _ in 0..100 {
-        match show_native::<L, R, A>(&mut texts, &mut record, shown) {
+        match show_native::<L, R>(&mut texts, &mut record, shown) {
             Ok(true) => {}
             Ok(false) => return Ok(None),
             Err(fault) => return Ok(Some(fault)),
@@ -201,7 +219,7 @@ fn read_native<L: Width, R: Read + Drop, A: AtHand<R>>(
 }
 
 /// The items of an amending text, shown, and the fault after them.
-fn read_amending<R: Read + Drop, A: AtHand<R>>(
+fn read_amending<R: Read + Drop>(
     alloc: Global,
     reader: R,
     shown: &mut Vec<u8>,
@@ -209,7 +227,27 @@ fn read_amending<R: Read + Drop, A: AtHand<R>>(
     let mut changes: AmendReader<R, Narrow> = AmendReader::new(alloc, reader);
     let mut record = no_record(alloc);
     for _ in 0..100 {
-        match show_amending::<R, A>(&mut changes, &mut record, shown) {
+        match show_amending::<R>(&mut changes, &mut record, shown) {
+            Ok(true) => {}
+            Ok(false) => return Ok(None),
+            Err(fault) => return Ok(Some(fault)),
+        }
+    }
+    Ok(None)
+}
+
+/// The items of a text of either form, shown, and the fault after them. Its records fill a buffer.
+fn read_filled<L: Width, R: Read + Drop, A: AtHand<R>>(
+    alloc: Global,
+    reader: R,
+    removals: bool,
+    shown: &mut Vec<u8>,
+) -> Result<Option<TextFault>, AllocError> {
+    let mut items: FormReader<R, L> = FormReader::new(reader, 1 << 48);
+    let mut record = no_record(alloc);
+    let mut buffer = [0u8; ROOM];
+    for _ in 0..100 {
+        match show_either::<L, R, A>(&mut items, removals, &mut record, &mut buffer, shown) {
             Ok(true) => {}
             Ok(false) => return Ok(None),
             Err(fault) => return Ok(Some(fault)),
@@ -222,13 +260,17 @@ fn read_amending<R: Read + Drop, A: AtHand<R>>(
 fn read_form<R: Read + Drop, A: AtHand<R>>(
     alloc: Global,
     form: Form,
+    fills: bool,
     reader: R,
     shown: &mut Vec<u8>,
 ) -> Result<Option<TextFault>, AllocError> {
-    match form {
-        Form::Native => read_native::<Narrow, R, A>(alloc, reader, shown),
-        Form::WideNative => read_native::<Wide, R, A>(alloc, reader, shown),
-        Form::Amending => read_amending::<R, A>(alloc, reader, shown),
+    match (form, fills) {
+        (Form::Native, false) => read_native::<Narrow, R>(alloc, reader, shown),
+        (Form::WideNative, false) => read_native::<Wide, R>(alloc, reader, shown),
+        (Form::Amending, false) => read_amending::<R>(alloc, reader, shown),
+        (Form::Native, true) => read_filled::<Narrow, R, A>(alloc, reader, false, shown),
+        (Form::WideNative, true) => read_filled::<Wide, R, A>(alloc, reader, false, shown),
+        (Form::Amending, true) => read_filled::<Narrow, R, A>(alloc, reader, true, shown),
     }
 }
 
@@ -236,7 +278,7 @@ fn read_form<R: Read + Drop, A: AtHand<R>>(
 pub(super) fn rest_of(alloc: Global, input: &mut Through<Dripping<'_>>) -> Result<Vec<u8>, Fail> {
     let mut rest = Vec::new(alloc);
     let mut piece = [0u8; 16];
-    for _ in 0..100 {
+    for _ in 0..1000 {
         let n = input.read(&mut piece)?;
         if n == 0 {
             break;
@@ -250,6 +292,7 @@ pub(super) fn rest_of(alloc: Global, input: &mut Through<Dripping<'_>>) -> Resul
 fn by_window(
     alloc: Global,
     form: Form,
+    fills: bool,
     text: &[u8],
     size: usize,
     most: usize,
@@ -257,7 +300,7 @@ fn by_window(
     let mut input = Through::new(alloc, Dripping { text, most }, size.max(1))?;
     let mut shown = Vec::new(alloc);
     let lent = Lent { input: &mut input };
-    let fault = read_form::<Lent<'_, '_>, InLent>(alloc, form, lent, &mut shown)?;
+    let fault = read_form::<Lent<'_, '_>, InLent>(alloc, form, fills, lent, &mut shown)?;
     let rest = rest_of(alloc, &mut input)?;
     Ok(Outcome { shown, fault, rest })
 }
@@ -266,7 +309,13 @@ fn by_window(
 fn by_byte(alloc: Global, form: Form, text: &[u8]) -> Result<Outcome, Fail> {
     let mut reader = Dripping { text, most: 1 };
     let mut shown = Vec::new(alloc);
-    let fault = read_form::<&mut Dripping<'_>, NoneAtHand>(alloc, form, &mut reader, &mut shown)?;
+    let fault = read_form::<&mut Dripping<'_>, NoneAtHand>(
+        alloc,
+        form,
+        false,
+        &mut reader,
+        &mut shown,
+    )?;
     let mut rest = Vec::new(alloc);
     rest.extend_from_slice(reader.text)?;
     Ok(Outcome { shown, fault, rest })
@@ -278,8 +327,10 @@ fn is_read_the_same(alloc: Global, form: Form, text: &[u8]) -> Result<bool, Fail
     let mut same = true;
     for size in SIZES {
         for most in MOST {
-            let given = by_window(alloc, form, text, size, most)?;
-            same = same && is_same(&given, &wanted);
+            for fills in [false, true] {
+                let given = by_window(alloc, form, fills, text, size, most)?;
+                same = same && is_same(&given, &wanted);
+            }
         }
     }
     Ok(same)
@@ -288,7 +339,7 @@ fn is_read_the_same(alloc: Global, form: Form, text: &[u8]) -> Result<bool, Fail
 #[test]
 fn texts_through_windows(rt: HostRuntime) -> Result<(), Fail> {
     for &text in &TEXTS {
-        for form in [Form::Native, Form::WideNative, Form::Amending] {
+        for form in FORMS {
             let same = is_read_the_same(rt.alloc(), form, text)?;
             assert!(rt; same, "{text:?} {form:?}");
         }
@@ -296,20 +347,80 @@ fn texts_through_windows(rt: HostRuntime) -> Result<(), Fail> {
     Ok(())
 }
 
-/// A text, what follows it, and its items.
-const LEFT: (&[u8], &[u8], &[u8]) = (
-    b"+3,5:one->Hello\n+3,7:two->Goodbye\n\n+1,1:a->b\n",
-    b"+1,1:a->b\n",
-    b"<one|Hello><two|Goodbye>",
-);
+/// Returns true if a text is read in the same way where its records fill buffers.
+fn is_filled_the_same(alloc: Global, form: Form, text: &[u8]) -> Result<bool, Fail> {
+    let wanted = by_byte(alloc, form, text)?;
+    let mut same = true;
+    for size in WIDE {
+        let given = by_window(alloc, form, true, text, size, 4096)?;
+        same = same && is_same(&given, &wanted);
+    }
+    Ok(same)
+}
+
+#[test]
+fn texts_beside_others_fill_buffers(rt: HostRuntime) -> Result<(), Fail> {
+    let (before, behind) = BESIDE;
+    for &text in &TEXTS {
+        let whole = joined(rt.alloc(), [before, text, behind])?;
+        for form in FORMS {
+            let same = is_filled_the_same(rt.alloc(), form, &whole)?;
+            assert!(rt; same, "{text:?} {form:?}");
+        }
+    }
+    Ok(())
+}
+
+/// A text with what follows it, what that is, and the items of the text.
+const LEFT: [(&[u8], &[u8], &[u8]); 2] = [
+    (
+        b"+3,5:one->Hello\n+3,7:two->Goodbye\n\n+1,1:a->b\n",
+        b"+1,1:a->b\n",
+        b"<one|Hello><two|Goodbye>",
+    ),
+    (
+        b"+3,5:one->Hello\n+3,7:two->Goodbye\n\n+1,70:a->a value of seventy bytes, so that the two records before it are filled\n",
+        b"+1,70:a->a value of seventy bytes, so that the two records before it are filled\n",
+        b"<one|Hello><two|Goodbye>",
+    ),
+];
 
 #[test]
 fn what_follows_a_text_stays_in_the_window(rt: HostRuntime) -> Result<(), Fail> {
-    let (text, rest, shown) = LEFT;
-    for size in SIZES {
-        let given = by_window(rt.alloc(), Form::Native, text, size, 4096)?;
-        let left = given.rest.as_slice() == rest && given.fault.is_none();
-        assert!(rt; left && given.shown.as_slice() == shown, "{size}");
+    for &(text, rest, shown) in &LEFT {
+        for size in SIZES {
+            for fills in [false, true] {
+                let given = by_window(rt.alloc(), Form::Native, fills, text, size, 4096)?;
+                let left = given.rest.as_slice() == rest && given.fault.is_none();
+                assert!(rt; left && given.shown.as_slice() == shown, "{size}, {fills}");
+            }
+        }
     }
+    Ok(())
+}
+
+#[test]
+fn records_at_hand_fill_a_buffer(rt: HostRuntime) -> Result<(), Fail> {
+    let (before, behind) = BESIDE;
+    let text = joined(rt.alloc(), [b"-0:\n+1,1:a->b\n", before, behind])?;
+    let mut input = Through::new(
+        rt.alloc(),
+        Dripping {
+            text: &text,
+            most: 4096,
+        },
+        4096,
+    )?;
+    let mut items: FormReader<Lent<'_, '_>, Narrow> = FormReader::new(
+        Lent { input: &mut input },
+        1 << 48,
+    );
+    let mut record = no_record(rt.alloc());
+    assert!(rt; items.read_into(&mut record, true)? == Some(ItemKind::Remove));
+    let mut shown = Vec::new(rt.alloc());
+    assert!(rt;
+        show_filling::<Narrow, Lent<'_, '_>, InLent>(&mut items, &mut [0u8; ROOM], &mut shown)?
+    );
+    assert!(rt; shown.as_slice() == b"<a|b><one|Hello>".as_slice());
     Ok(())
 }

@@ -1,6 +1,6 @@
 // Map texts through windows of all sizes, over readers that give a byte, two, or all.
 use super::through::{InThrough, Through};
-use cdb_form::{MapReader, Record};
+use cdb_form::{Filled, MapReader, Narrow, Record, Width, pair_size, read_header};
 use std::alloc::{AllocError, Global};
 use std::io::{self, Read};
 use std::prelude::*;
@@ -68,8 +68,21 @@ const RECORDS: [(&[u8], &[u8]); 23] = [
     ),
 ];
 
+/// Lines behind a text, and their records: with so many bytes after them, those of the text may fill
+/// a buffer.
+const BEHIND: (&[u8], &[u8]) = (
+    b"\nk v\nlast a value of more than sixty-four bytes, which is longer than the piece that is copied\n",
+    b"<k|v><last|a value of more than sixty-four bytes, which is longer than the piece that is copied>",
+);
+
 /// The sizes of the windows.
 pub(super) const SIZES: [usize; 6] = [1, 2, 3, 7, 16, 4096];
+
+/// The sizes of the windows that hold enough for a buffer to be filled.
+pub(super) const WIDE: [usize; 2] = [100, 4096];
+
+/// The size of a buffer that is filled.
+pub(super) const ROOM: usize = 160;
 
 /// The number of bytes that a reader gives at once.
 pub(super) const MOST: [usize; 3] = [1, 2, 4096];
@@ -91,36 +104,65 @@ impl Read for Dripping<'_> {
     }
 }
 
+/// Some bytes, one after the other.
+pub(super) fn joined(alloc: Global, parts: [&[u8]; 3]) -> Result<Vec<u8>, AllocError> {
+    let mut whole = Vec::new(alloc);
+    for part in parts {
+        whole.extend_from_slice(part)?;
+    }
+    Ok(whole)
+}
+
 /// Puts a record as `<key|value>` after others.
-fn show(key: &[u8], value: &[u8], shown: &mut Vec<u8>) -> Result<(), AllocError> {
+pub(super) fn show(key: &[u8], value: &[u8], shown: &mut Vec<u8>) -> Result<(), AllocError> {
     for part in [b"<", key, b"|", value, b">"] {
         shown.extend_from_slice(part)?;
     }
     Ok(())
 }
 
-/// Shows the next record where it lies, if it is whole at hand, and takes it.
-fn show_peeked<R: Read>(
-    maps: &mut MapReader<Through<R>>,
+/// Shows the records that fill a buffer, each by its header. A record that is not there is shown as
+/// `?`, and bytes of none as they are.
+pub(super) fn show_filled<L: Width>(
+    filled: Filled,
+    buffer: &[u8],
     shown: &mut Vec<u8>,
-) -> Result<bool, AllocError> {
-    let Some(peeked) = maps.peek::<InThrough>() else {
-        return Ok(false);
-    };
-    let len = peeked.len;
-    show(peeked.key, peeked.value, shown)?;
-    maps.take_peeked::<InThrough>(len);
-    Ok(true)
+) -> Result<(), AllocError> {
+    let mut rest = &buffer[..filled.held.min(buffer.len())];
+    for _ in 0..filled.count {
+        if rest.len() < pair_size::<L>() {
+            shown.push(b'?')?;
+            break;
+        }
+        let (head, body) = rest.split_at(pair_size::<L>());
+        let header = read_header::<L>(head);
+        let (key, body) = body.split_at(body.len().min(header.klen as usize));
+        let (value, behind) = body.split_at(body.len().min(header.vlen as usize));
+        show(key, value, shown)?;
+        rest = behind;
+    }
+    shown.extend_from_slice(rest)
 }
 
-/// The records of a text that comes through a window, shown: where they lie, if they are whole at
-/// hand and it peeks, and else as they are read.
+/// Shows the records that fill a buffer, and answers whether there are any.
+fn show_next<R: Read>(
+    maps: &mut MapReader<Through<R>>,
+    buffer: &mut [u8],
+    shown: &mut Vec<u8>,
+) -> Result<bool, AllocError> {
+    let filled = maps.fill::<Narrow, InThrough>(buffer, 0);
+    show_filled::<Narrow>(filled, buffer, shown)?;
+    Ok(0 < filled.count)
+}
+
+/// The records of a text that comes through a window, shown: those that fill a buffer, if it fills
+/// one, and else as they are read.
 fn shown(
     alloc: Global,
     text: &[u8],
     size: usize,
     most: usize,
-    peeks: bool,
+    fills: bool,
 ) -> Result<Vec<u8>, Fail> {
     let mut reader = Dripping { text, most };
     let mut maps = MapReader::new(alloc, Through::new(alloc, &mut reader, size.max(1))?);
@@ -128,9 +170,10 @@ fn shown(
         key: Vec::new(alloc),
         value: Vec::new(alloc),
     };
+    let mut buffer = [0u8; ROOM];
     let mut shown = Vec::new(alloc);
     for _ in 0..1000 {
-        if peeks && show_peeked(&mut maps, &mut shown)? {
+        if fills && show_next(&mut maps, &mut buffer, &mut shown)? {
             continue;
         }
         if !maps.read_buffered::<InThrough>(&mut record)? {
@@ -146,16 +189,55 @@ fn map_texts_through_windows(rt: HostRuntime) -> Result<(), Fail> {
     for &(text, records) in &RECORDS {
         for size in SIZES {
             for most in MOST {
-                for peeks in [false, true] {
-                    let given = shown(rt.alloc(), text, size, most, peeks)?;
+                for fills in [false, true] {
+                    let given = shown(rt.alloc(), text, size, most, fills)?;
                     assert!(rt;
                         given.as_slice() == records,
-                        "{text:?} by {size} and {most}, {peeks}"
+                        "{text:?} by {size} and {most}, {fills}"
                     );
                 }
             }
         }
     }
+    Ok(())
+}
+
+#[test]
+fn map_texts_before_others_fill_buffers(rt: HostRuntime) -> Result<(), Fail> {
+    let (behind, more) = BEHIND;
+    for &(text, records) in &RECORDS {
+        let text = joined(rt.alloc(), [text, behind, b""])?;
+        let records = joined(rt.alloc(), [records, more, b""])?;
+        for size in WIDE {
+            let given = shown(rt.alloc(), &text, size, 4096, true)?;
+            assert!(rt;
+                given.as_slice() == records.as_slice(),
+                "{text:?} by {size}"
+            );
+        }
+    }
+    Ok(())
+}
+
+#[test]
+fn lines_at_hand_fill_a_buffer(rt: HostRuntime) -> Result<(), Fail> {
+    let text = joined(
+        rt.alloc(),
+        [b"k v\n", b"one Hello\ntwo Good bye\n", BEHIND.0],
+    )?;
+    let mut reader = Dripping {
+        text: &text,
+        most: 4096,
+    };
+    let mut maps = MapReader::new(rt.alloc(), Through::new(rt.alloc(), &mut reader, 4096)?);
+    let mut record = Record {
+        key: Vec::new(rt.alloc()),
+        value: Vec::new(rt.alloc()),
+    };
+    assert!(rt; maps.read_buffered::<InThrough>(&mut record)?);
+    let mut shown = Vec::new(rt.alloc());
+    assert!(rt; show_next(&mut maps, &mut [0u8; ROOM], &mut shown)?);
+    assert!(rt; shown.as_slice() == b"<one|Hello><two|Good bye>".as_slice());
     Ok(())
 }
 

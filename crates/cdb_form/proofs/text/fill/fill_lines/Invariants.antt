@@ -1,0 +1,15 @@
+use Rattle.cdb_form.proofs.Words.{length, ◌-◌, ◌≤◌}
+use Rattle.cdb_form.specs.Views.Prefix.{BeginsWithLine}
+use Rattle.cdb_form.proofs.Filling.{Filling}
+use Rattle.cdb_form.proofs.text.fill.fill_lines.Given as goal
+
+-- what is filled so far
+abbrev pub invariant-loop-taken : goal.invariant-loop-taken
+invariant-loop-taken g l =
+    record {
+      filling : Filling BeginsWithLine g.L.Width.WORD g.L.Width.TOP l.text l.fn.into l.into l.held l.taken l.end l.count;
+      limited : l.end ≤ l.limit;
+    }
+
+abbrev pub decreases-loop-taken : goal.decreases-loop-taken
+decreases-loop-taken g l = length l.text - l.taken
