@@ -1,5 +1,5 @@
 // Whole records, as they are in a file, are written after the others by one write.
-ghost use Rattle.std.specs.Prelude.{◌≡◌, ℕ, ◌+◌, ◌*◌, ◌<◌, ◌≤◌, ◌⊎◌, ◌++◌, ◌∷◌, [], true, false, List, length, take, sum_by, IfOk, IfErr, OnOk, OnErr};
+ghost use Rattle.std.specs.Prelude.{◌≡◌, ◌+◌, ◌*◌, ◌<◌, ◌≤◌, ◌⊎◌, ◌∷◌, [], true, false, length, take, sum_by, vec_capacity, IfOk, IfErr, OnOk, OnErr};
 ghost use Rattle.cdb_store.specs.Images.{ImagesHold as AreIn};
 ghost use Rattle.cdb_form.specs.Format.{whole_size, key_hash, KeyValue, IsRecord, record_bytes, record_size, prefix_size, prefix_record, whole_records};
 ghost use Rattle.cdb_store.specs.declared.make_fault.MakeFault.TheVariants.{NoMemory};
@@ -8,29 +8,36 @@ ghost use Rattle.cdb_make.specs.Chains.{second_hash};
 ghost use Rattle.cdb_make.specs.Views.Roll.{SameRecords};
 
 use crate::maker::Maker;
+use crate::tags::number_of;
 use cdb_form::{Width, hash, pair_size, read_header, record_len};
 use cdb_store::{MakeFault, Store};
 
 /// The record with which some bytes begin.
 #[derive(Clone, Copy)]
-struct First<'a> {
-    key: &'a [u8],
+pub struct FirstRecord<'a> {
+    /// The key.
+    pub key: &'a [u8],
+    /// The value.
+    pub value: &'a [u8],
     /// The number of bytes of the record.
-    size: usize,
+    pub size: usize,
 }
 
 /// The whole record with which some bytes begin.
-fn first_record<L: Width>(bytes: &[u8]) -> First<'_>
+pub fn first_record<L: Width>(bytes: &[u8]) -> FirstRecord<'_>
     requires { prefix_size L.WORD bytes.now ≤ length bytes.now }
     ensures key { result.key.now ≡ (prefix_record L.WORD bytes.now).key }
+    ensures value { result.value.now ≡ (prefix_record L.WORD bytes.now).value }
     ensures size { result.size ≡ prefix_size L.WORD bytes.now }
 {
-    let size = pair_size::<L>();
-    let header = read_header::<L>(&bytes[..size]);
-    let value = size + header.klen as usize;
-    First {
-        key: &bytes[size..value],
-        size: value + header.vlen as usize,
+    let pair = pair_size::<L>();
+    let header = read_header::<L>(&bytes[..pair]);
+    let value = pair + header.klen as usize;
+    let size = value + header.vlen as usize;
+    FirstRecord {
+        key: &bytes[pair..value],
+        value: &bytes[value..size],
+        size,
     }
 }
 
@@ -79,18 +86,20 @@ fn measure<L: Width>(bytes: &[u8], room: u64) -> Fitting
 }
 
 impl<S: Store, L: Width> Maker<S, L> {
-    ghost use Rattle.cdb_make.specs.Views.Maker.{Holds, StaysWhole, Follows, HasNotFailed, HasGone, MakerKeepsAll};
+    ghost use Rattle.cdb_make.specs.Views.Maker.{StaysWhole, Follows, HasNotFailed, MakerKeepsAll};
     ghost use Rattle.cdb_make.specs.Views.Appending.{AppendsAll, AppendsSome, FailsAppending, BeginsTags, Enters, KeepsLimit, IsCrowded, FailsWriting, full_size};
 
     /// Notes a record whose bytes are in the store, after the others.
     ///
     /// `NoMemory`: the records are what they were.
-    fn enter(&mut self, hash: u32, sought: u32, size: u64) -> Result<(), MakeFault>
+    #[inline(always)]
+    fn enter(&mut self, tagged: bool, hash: u32, number: u32, size: u64) -> Result<(), MakeFault>
+        requires tagged { tagged ≡ self.old.roll.tagged }
         requires whole { self.old.broken ≡ false }
         requires inside { self.old.roll.end + size ≤ S.size self.old.store }
         requires within { full_size self.old + size + 4 * L.WORD ≤ self.old.limit }
         ensures enters { (r : KeyValue) → IsRecord r → hash ≡ key_hash r.key
-            → (self.old.roll.tagged ≡ true → sought ≡ second_hash r.key)
+            → (self.old.roll.tagged ≡ true → number ≡ second_hash r.key)
             → size ≡ record_size L.WORD r
             → AreIn self.old.roll.end (record_bytes L.WORD r) (S.image self.old.store)
             → OnOk result (Enters self.old self.new (r ∷ [])) }
@@ -105,7 +114,7 @@ impl<S: Store, L: Width> Maker<S, L> {
         ensures tagged { self.new.roll.tagged ≡ self.old.roll.tagged }
     {
         self.roll.reserve()?;
-        self.roll.push(hash, sought, size);
+        self.roll.push(tagged, hash, number, size);
         Ok(())
     }
 
@@ -114,7 +123,9 @@ impl<S: Store, L: Width> Maker<S, L> {
     ///
     /// `NoMemory`: the records that are noted are held, and the bytes after them belong to no
     /// record.
-    fn enter_all(&mut self, bytes: &[u8], count: usize) -> Result<(), MakeFault>
+    #[inline(always)]
+    fn enter_each(&mut self, tagged: bool, bytes: &[u8], count: usize) -> Result<(), MakeFault>
+        requires tagged { tagged ≡ self.old.roll.tagged }
         requires whole { self.old.broken ≡ false }
         requires first { AreFirst L.WORD bytes.now count (first_size L.WORD bytes.now count) }
         requires room { full_size self.old
@@ -140,11 +151,41 @@ impl<S: Store, L: Width> Maker<S, L> {
         for _ in 0..count {
             let first = first_record::<L>(&bytes[place..]);
             let hash = hash(first.key);
-            let sought = self.roll.sought_by_look(hash, first.key);
-            self.enter(hash, sought, first.size as u64)?;
+            let number = number_of(tagged, hash, first.key);
+            self.enter(tagged, hash, number, first.size as u64)?;
             place += first.size;
         }
         Ok(())
+    }
+
+    /// Does what `enter_each` does, whether the records are tagged or not.
+    fn enter_all(&mut self, bytes: &[u8], count: usize) -> Result<(), MakeFault>
+        requires whole { self.old.broken ≡ false }
+        requires first { AreFirst L.WORD bytes.now count (first_size L.WORD bytes.now count) }
+        requires room { full_size self.old
+            + sum_by (whole_size L.WORD) (take count (records_at L.WORD bytes.now))
+            ≤ self.old.limit }
+        requires inside { self.old.roll.end + first_size L.WORD bytes.now count
+            ≤ S.size self.old.store }
+        requires written { AreIn self.old.roll.end
+            (take (first_size L.WORD bytes.now count) bytes.now) (S.image self.old.store) }
+        ensures ok { OnOk result
+            (Enters self.old self.new (take count (records_at L.WORD bytes.now))) }
+        ensures some { OnErr result
+            (AppendsSome self.old self.new (take count (records_at L.WORD bytes.now))
+            (KeepsLimit self.old self.new)) }
+        ensures memory { IfErr result (λ fault. fault ≡ NoMemory) }
+        ensures limit { self.new.limit ≡ self.old.limit }
+        ensures lazy { self.new.lazy ≡ self.old.lazy }
+        ensures gone { self.new.roll.gone.count ≡ self.old.roll.gone.count }
+        ensures store { self.new.store ≡ self.old.store }
+        ensures tagged { self.new.roll.tagged ≡ self.old.roll.tagged }
+    {
+        if self.roll.tagged {
+            self.enter_each(true, bytes, count)
+        } else {
+            self.enter_each(false, bytes, count)
+        }
     }
 
     /// Writes some bytes after the records, which stay.
@@ -171,11 +212,17 @@ impl<S: Store, L: Width> Maker<S, L> {
         Ok(())
     }
 
-    /// Writes the first `count` whole records of some bytes after the others, and notes them. A
-    /// lazy maker that has noted no record tags all that come, also if this call has none.
+    /// Writes the first `count` whole records of some bytes after the others, and notes them. With
+    /// `tags` a maker that has noted no record tags all that come, also if this call has none.
     ///
     /// It fails as `append` does.
-    fn append_first(&mut self, bytes: &[u8], count: usize, size: usize) -> Result<(), MakeFault>
+    fn append_first(
+        &mut self,
+        bytes: &[u8],
+        count: usize,
+        size: usize,
+        tags: bool,
+    ) -> Result<(), MakeFault>
         requires whole { self.old.broken ≡ false }
         requires first { AreFirst L.WORD bytes.now count size }
         requires room { full_size self.old
@@ -186,10 +233,11 @@ impl<S: Store, L: Width> Maker<S, L> {
         ensures fails { IfErr result
             (FailsAppending self.old self.new (take count (records_at L.WORD bytes.now))) }
         ensures gone { self.new.roll.gone.count ≡ self.old.roll.gone.count }
-        ensures tagged { BeginsTags self.old self.new }
+        ensures tagged { tags ≡ true → vec_capacity self.old.roll.hashes ≡ 0
+            → self.new.roll.tagged ≡ true }
         ensures follows { Follows self.old self.new }
     {
-        self.roll.tag(self.lazy);
+        self.roll.tag(tags);
         if count == 0 {
             return Ok(());
         }
@@ -223,7 +271,7 @@ impl<S: Store, L: Width> Maker<S, L> {
         ensures follows { Follows self.old self.new }
     {
         let fitting = measure::<L>(bytes, self.limit - self.full_size());
-        self.append_first(bytes, fitting.count, fitting.size)?;
+        self.append_first(bytes, fitting.count, fitting.size, self.lazy)?;
         if fitting.passes {
             return Err(MakeFault::TooBig);
         }
@@ -260,5 +308,38 @@ impl<S: Store, L: Width> Maker<S, L> {
         }
         self.compact_all()?;
         self.append_beside(bytes)
+    }
+
+    /// Returns true if the file has room for some bytes, which are `count` whole records, beside
+    /// all records.
+    fn holds_beside(&self, bytes: &[u8], count: usize) -> bool
+        requires whole { AreFirst L.WORD bytes.now count (length bytes.now) }
+        ensures { result ≡ true → full_size self.now
+            + sum_by (whole_size L.WORD) (take count (records_at L.WORD bytes.now))
+            ≤ self.now.limit }
+    {
+        let slots = 2 * pair_size::<L>() as u64;
+        let room = self.limit - self.full_size();
+        count as u64 <= room / slots && bytes.len() as u64 <= room - slots * count as u64
+    }
+
+    /// Appends some bytes, which are `count` whole records, as `append` does, but begins no tags if
+    /// the file has room beside the records that go.
+    ///
+    /// It fails as `append` does.
+    pub fn append_whole(&mut self, bytes: &[u8], count: usize) -> Result<(), MakeFault>
+        requires whole { AreFirst L.WORD bytes.now count (length bytes.now) }
+        ensures ok { OnOk result
+            (AppendsAll self.old self.new (records_at L.WORD bytes.now) (length bytes.now)) }
+        ensures fails { IfErr result
+            (FailsAppending self.old self.new (records_at L.WORD bytes.now)) }
+        ensures keeps { MakerKeepsAll self.old self.new }
+        ensures follows { Follows self.old self.new }
+    {
+        if self.broken || self.roll.gone.count > 0 || !self.holds_beside(bytes, count) {
+            self.append(bytes)?;
+            return Ok(());
+        }
+        self.append_first(bytes, count, bytes.len(), false)
     }
 }

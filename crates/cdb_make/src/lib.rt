@@ -26,6 +26,7 @@ mod tags;
 mod write;
 
 pub use answer::Put;
+pub use append::{FirstRecord, first_record};
 pub use cdb_form::Mode;
 pub use cdb_store::MakeFault;
 pub use lifetime::{Refused, Unfinished};

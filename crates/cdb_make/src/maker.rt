@@ -83,7 +83,9 @@ impl<S: Store, L: Width> Maker<S, L> {
         self.roll.reserve()?;
         append_record::<S, L>(&mut self.store, self.roll.end, key, value)?;
         let size = pair_size::<L>() as u64 + key.len() as u64 + value.len() as u64;
-        self.roll.push(candidate.hash, candidate.number, size);
+        let tagged = self.roll.tagged;
+        self.roll
+            .push(tagged, candidate.hash, candidate.number, size);
         Ok(())
     }
 

@@ -366,9 +366,11 @@ impl<L: Width> Roll<L> {
     }
 
     /// Notes one more record, of `size` bytes. There is room for it. If the records are tagged, its
-    /// tag is noted, and it is linked into its chain if all others are and the chains have room.
+    /// tag is noted, and it is linked into its chain if all others are and the chains have room. A
+    /// caller that knows whether they are tagged spares the tests.
     #[inline(always)]
-    pub(crate) fn push(&mut self, hash: u32, tag: u32, size: u64)
+    pub(crate) fn push(&mut self, tagged: bool, hash: u32, tag: u32, size: u64)
+        requires tagged { tagged ≡ self.old.tagged }
         requires room { HasRoom self.old }
         requires fits { self.old.end + size ≤ L.GREATEST }
         ensures hashes { self.new.hashes.items ≡ self.old.hashes.items ++ hash ∷ [] }
@@ -390,10 +392,10 @@ impl<L: Width> Roll<L> {
     {
         let number = self.len();
         self.hashes.push_reserved(hash);
-        push_tag(self.tagged, &mut self.tags, tag);
+        push_tag(tagged, &mut self.tags, tag);
         self.places.push(self.end);
         self.end += size;
-        self.chains.push(self.tagged, number, tag);
+        self.chains.push(tagged, number, tag);
     }
 
     /// Removes the records that go.

@@ -34,6 +34,14 @@ pub(crate) fn second_hash(key: &[u8]) -> u32
     tag_each(tag, rest)
 }
 
+/// Returns the number by which a record is found whose key has this hash: its tag, if there are tags.
+#[inline(always)]
+pub(crate) fn number_of(tagged: bool, hash: u32, key: &[u8]) -> u32
+    ensures { result ≡ cond tagged (second_hash key.now) hash }
+{
+    if tagged { second_hash(key) } else { hash }
+}
+
 /// Returns the numbers that looks search: the entries' tags if there are tags, else their hashes.
 #[inline(always)]
 pub(crate) fn searched<'a>(tagged: bool, tags: &'a [u32], hashes: &'a [u32]) -> &'a [u32]

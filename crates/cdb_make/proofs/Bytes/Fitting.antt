@@ -1,13 +1,18 @@
 -- The first whole records of some bytes.
-use Rattle.cdb_make.proofs.Words.{AreBytes, AreFirst, ImagesHold, IsRecord, KeyValue, List, [], ap, append-nil, append_assoc, arith, drop, drop-drop, drop-take, flat_map, flat_map-append, inl, inr, length, length-drop, length-record_bytes, length-take, pair_at, part, prefix_record, prefix_size, record_bytes, record_size, records_at, refl, suc, sym, take, take-take, take_at, whole_records, whole_size, ℕ, ◌*◌, ◌++◌, ◌+◌, ◌-◌, ◌<◌, ◌∙◌, ◌∷◌, ◌≡◌, ◌≤◌}
-use Rattle.std.specs.Prelude.{sum_by}
-use Rattle.std.proofs.Math.Seq.{take-add}
+use Rattle.cdb_make.proofs.Words.{AreBytes, AreFirst, ImagesHold, IsRecord, KeyValue, List, [], ap, append-nil, append_assoc, arith, drop, drop-drop, drop-take, flat_map, flat_map-append, inl, inr, length, length-drop, length-record_bytes, length-take, pair_at, part, prefix_record, prefix_size, record_bytes, record_size, records_at, refl, suc, sym, take, take-append-drop, take-take, take_at, whole_records, whole_size, ℕ, ◌*◌, ◌++◌, ◌+◌, ◌-◌, ◌<◌, ◌∙◌, ◌∷◌, ◌≡◌, ◌≤◌}
+use Rattle.std.specs.List.{AllByRecursion}
+use Rattle.std.specs.Prelude.{All, ◌^◌, sum_by}
+use Rattle.std.proofs.Math.Seq.{drop-length, take-add, take-length}
+use Rattle.std.proofs.lemmas.List.Elements.{recursion_from_All}
 use Rattle.std.proofs.lemmas.List.Sums.{sum_by_push, sum_by-take-le}
 use Rattle.std.proofs.lemmas.Bool.{cases_lt, cond-true, le-leb}
 use Rattle.cdb_store.proofs.Parts.{part_part}
 use Rattle.cdb_form.proofs.Bytes.ByteLemmas.{AreBytes-take}
-use Rattle.cdb_form.proofs.Files.Prefixes.{fits_prefix, whole_records-none, whole_records-room}
-use Rattle.cdb_form.proofs.Files.Standing.{AreBytes-drop, prefix_stands}
+use Rattle.cdb_form.specs.Laws.Text.{LengthsFit}
+use Rattle.cdb_form.specs.Views.Pairs.{PairFits}
+use Rattle.cdb_form.proofs.Files.Prefixes.{fits_prefix, lengths_of, whole_records-none, whole_records-room}
+use Rattle.cdb_form.proofs.Files.Sizes.{length-records}
+use Rattle.cdb_form.proofs.Files.Standing.{AreBytes-drop, all_records-flat_map, prefix_stands}
 
 -- a whole record, and then those of the rest
 pub records_at-cons : (w : ℕ) (xs : List ℕ) → 0 < w → prefix_size w xs ≤ length xs → records_at w xs ≡ prefix_record w xs ∷ records_at w (drop (prefix_size w xs) xs)
@@ -61,6 +66,14 @@ cut_at k xs ys x e =
 -- no record is first
 pub first_none : (w : ℕ) (bytes : List ℕ) → AreFirst w bytes 0 0
 first_none w bytes = record { few = omega arith; within = omega arith; sum = refl; are = refl; rest = refl }
+
+-- whole records that are all bytes are all that there are
+pub all_first : (w : ℕ) (bytes : List ℕ) (count : ℕ) → AreFirst w bytes count (length bytes) → take count (records_at w bytes) ≡ records_at w bytes
+unfolding whole_records
+all_first w bytes count first =
+    let all : List KeyValue = records_at w bytes in
+    let none : drop count all ≡ [] = sym first.rest ∙ ap (records_at w) (drop-length bytes) in
+    sym (append-nil (take count all)) ∙ ap (λ rs. take count all ++ rs) (sym none) ∙ take-append-drop count all
 
 -- the next record
 pub next_splits : (w : ℕ) (bytes : List ℕ) (count place : ℕ) → 0 < w → AreFirst w bytes count place → prefix_size w (drop place bytes) ≤ length (drop place bytes)
@@ -164,3 +177,31 @@ next_of xs k n x lt cut =
     let m : ℕ = n - (k + 1) in
     let e : n ≡ k + 1 + m = omega arith in
     ap (λ (j : ℕ). take j xs) e ∙ take-add (k + 1) m xs ∙ ap (λ t. t ++ take m (drop (k + 1) xs)) cut.1 ∙ append_assoc (take k xs) (x ∷ []) (take m (drop (k + 1) xs))
+
+-- ---- the bytes of some records
+
+pairs_fit : (top : ℕ) (rs : List KeyValue) → AllByRecursion (LengthsFit top) rs → AllByRecursion (λ r. PairFits top (lengths_of r)) rs
+pairs_fit top [] fits = tt
+pairs_fit top (r ∷ rs) fits = (record { first = fits.0.key; second = fits.0.value }, pairs_fit top rs fits.1)
+
+-- they are read as these records
+pub records_read : (w top : ℕ) (bytes : List ℕ) (rs : List KeyValue) → 0 < w → top + 1 ≡ 256 ^ w → All (LengthsFit top) rs → bytes ≡ flat_map (record_bytes w) rs → records_at w bytes ≡ rs
+unfolding whole_records
+records_read w top bytes rs some top_is fits are =
+    ap (records_at w) (are ∙ sym (append-nil (flat_map (record_bytes w) rs)))
+    ∙ all_records-flat_map w top rs [] some top_is (pairs_fit top rs (recursion_from_All (LengthsFit top) rs fits))
+    ∙ append-nil rs
+
+-- and all of them are whole
+pub all_whole : (w top : ℕ) (bytes : List ℕ) (rs : List KeyValue) → 0 < w → top + 1 ≡ 256 ^ w → All (LengthsFit top) rs → bytes ≡ flat_map (record_bytes w) rs → AreFirst w bytes (length rs) (length bytes)
+unfolding whole_records
+all_whole w top bytes rs some top_is fits are =
+    let read : records_at w bytes ≡ rs = records_read w top bytes rs some top_is fits are in
+    let first : take (length rs) (records_at w bytes) ≡ rs = ap (take (length rs)) read ∙ take-length rs in
+    record {
+      few = omega (arith, ap length read);
+      within = omega arith;
+      sum = ap length are ∙ length-records w rs ∙ ap (sum_by (record_size w)) (sym first);
+      are = take-length bytes ∙ are ∙ ap (flat_map (record_bytes w)) (sym first);
+      rest = ap (records_at w) (drop-length bytes) ∙ sym (drop-length rs) ∙ ap (drop (length rs)) (sym read);
+    }

@@ -1,4 +1,5 @@
-use Rattle.cdb_make.proofs.Words.{arith, common_steps}
+use Rattle.cdb_make.proofs.Words.{List, WordPair, ap, arith, common_steps, drop, header_pair, pair_at, take, ℕ, ◌*◌, ◌+◌, ◌∙◌, ◌≡◌}
+use Rattle.cdb_form.proofs.Bytes.WordLemmas.{pair_at-take, span_of}
 use Rattle.cdb_make.proofs.append.first_record.Goals as goal
 
 pub returns-clause-size : goal.returns-clause-size
@@ -10,5 +11,21 @@ slice_bounds-result-end g c = grind (arith, common_steps)
 pub overflow_add-value : goal.overflow_add-value
 overflow_add-value g c = grind (arith, common_steps)
 
-pub overflow_add-result : goal.overflow_add-result
-overflow_add-result g c = grind (arith, common_steps)
+pub overflow_add-size : goal.overflow_add-size
+overflow_add-size g c = grind (arith, common_steps)
+
+pub returns-clause-key : goal.returns-clause-key
+returns-clause-key g c = grind (arith, common_steps)
+
+pub returns-clause-value : goal.returns-clause-value
+returns-clause-value g c =
+    let w : ℕ = g.L.Width.WORD in
+    let bytes : List ℕ = c.args.bytes.now in
+    let pair : ℕ = c.pair_size-pair.result in
+    let klen : ℕ = c.read_header-header.result.klen in
+    let vlen : ℕ = c.read_header-header.result.vlen in
+    let twice : pair ≡ w + w = omega (arith, c.pair_size-pair.ensures) in
+    let read : header_pair c.read_header-header.result ≡ pair_at w bytes = c.read_header-header.ensures.read ∙ ap (λ (n : ℕ). pair_at w (take n bytes)) twice ∙ pair_at-take w bytes in
+    ap (λ (n : ℕ). take n (drop (pair + klen) bytes)) (span_of (pair + klen) vlen)
+    ∙ ap (λ (n : ℕ). take vlen (drop (n + klen) bytes)) c.pair_size-pair.ensures
+    ∙ ap (λ (p : WordPair). take p.second (drop (2 * w + p.first) bytes)) read

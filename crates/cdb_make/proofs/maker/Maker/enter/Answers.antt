@@ -15,7 +15,7 @@ returns-clause-enters g c = λ r is_record hashed numbered sized stored.
     let k = c.reserve.ensures in
     let same = k.same in
     let now = c.push.new.self in
-    let number = number_is c.reserve.new.self.tagged r.key c.args.hash c.args.sought hashed (λ e. numbered (sym k.tagged ∙ e)) in
+    let number = number_is c.reserve.new.self.tagged r.key c.args.hash c.args.number hashed (λ e. numbered (sym k.tagged ∙ e)) in
     entered m _ c.reserve.new.self r same is_record c.requires.whole c.requires.whole
     (c.push.ensures.hashes ∙ ap (λ (v : ℕ). c.reserve.new.self.hashes.items ++ v ∷ []) hashed) c.push.ensures.tagged (c.push.ensures.searched ∙ ap (λ (v : ℕ). searched c.reserve.new.self ++ v ∷ []) number)
     (λ sizes of. subst (λ (n : ℕ). AreOf (head_size w) (places_in now.places) now.end (sizes ++ n ∷ [])) sized (c.push.ensures.of sizes of))

@@ -47,7 +47,7 @@ invariant_of-self-clause-chained g c =
     let items : gone_of (all_marks (length c.push_reserved.new.self.items) m.marks.items) ≡ ms ++ false ∷ [] = ap gone_of (more g (goal.at.invariant_of-self-clause-chained g c).After-push) ∙ map-append is_gone (marks_in m) (Stays ∷ []) in
     let news : List ℕ = searched_by m.tagged c.push_tag.new.tags.items c.push_reserved.new.self.items in
     let v : ℕ = cond m.tagged c.args.tag c.args.hash in
-    let more : news ≡ searched m ++ v ∷ [] = ap (searched_by m.tagged c.push_tag.new.tags.items) c.push_reserved.ensures.items ∙ c.push_tag.ensures.more m.hashes.items c.args.hash in
+    let more : news ≡ searched m ++ v ∷ [] = ap (searched_by m.tagged c.push_tag.new.tags.items) c.push_reserved.ensures.items ∙ subst (λ (t : Bool). searched_by t c.push_tag.new.tags.items (m.hashes.items ++ c.args.hash ∷ []) ≡ searched_by t m.tags.items m.hashes.items ++ cond t c.args.tag c.args.hash ∷ []) c.requires.tagged (c.push_tag.ensures.more m.hashes.items c.args.hash) in
     let long : length news ≡ n + 1 = ap length more ∙ length_push (searched m) v ∙ ap (λ (k : ℕ). k + 1) m.numbered in
     let marks : n ≡ length ms = sym (length-map (marks_in m) is_gone ∙ marks_long m) in
     c.push-2.ensures.chained news (gone_of (all_marks (length c.push_reserved.new.self.items) m.marks.items))
@@ -57,16 +57,16 @@ invariant_of-self-clause-chained g c =
     (λ k lt. ap (λ (v : List Bool). get_or v k true) items ∙ get_or_append_left ms (false ∷ []) true k (omega (arith, m.chained.within, m.numbered, marks)))
     m.chained)
     (omega (arith, at, long))
-    (λ tagged. ap (λ (v : List ℕ). slice_index v c.len-number.result) more ∙ get_or_push (searched m) v 0 c.len-number.result (m.numbered ∙ sym at) ∙ ap (λ (w : Bool). cond w c.args.tag c.args.hash) tagged)
+    (λ tagged. ap (λ (v : List ℕ). slice_index v c.len-number.result) more ∙ get_or_push (searched m) v 0 c.len-number.result (m.numbered ∙ sym at) ∙ ap (λ (w : Bool). cond w c.args.tag c.args.hash) (sym c.requires.tagged ∙ tagged))
     (ap (λ (v : List Bool). get_or v c.len-number.result true) items ∙ get_or_push ms false true c.len-number.result (sym (at ∙ marks)))
 
 pub returns-clause-searched : goal.returns-clause-searched
-returns-clause-searched g c = ap (searched_by c.args.self.now.tagged c.push_tag.new.tags.items) c.push_reserved.ensures.items ∙ c.push_tag.ensures.more c.args.self.now.hashes.items c.args.hash
+returns-clause-searched g c = ap (searched_by c.args.self.now.tagged c.push_tag.new.tags.items) c.push_reserved.ensures.items ∙ subst (λ (t : Bool). searched_by t c.push_tag.new.tags.items (c.args.self.now.hashes.items ++ c.args.hash ∷ []) ≡ searched_by t c.args.self.now.tags.items c.args.self.now.hashes.items ++ cond t c.args.tag c.args.hash ∷ []) c.requires.tagged (c.push_tag.ensures.more c.args.self.now.hashes.items c.args.hash)
 
 pub invariant_of-self-clause-numbered : goal.invariant_of-self-clause-numbered
 invariant_of-self-clause-numbered g c =
     let m = c.args.self.now in
-    let more = ap (searched_by m.tagged c.push_tag.new.tags.items) c.push_reserved.ensures.items ∙ c.push_tag.ensures.more m.hashes.items c.args.hash in
+    let more = ap (searched_by m.tagged c.push_tag.new.tags.items) c.push_reserved.ensures.items ∙ subst (λ (t : Bool). searched_by t c.push_tag.new.tags.items (m.hashes.items ++ c.args.hash ∷ []) ≡ searched_by t m.tags.items m.hashes.items ++ cond t c.args.tag c.args.hash ∷ []) c.requires.tagged (c.push_tag.ensures.more m.hashes.items c.args.hash) in
     omega (arith, ap length more, length_push (searched m) (cond m.tagged c.args.tag c.args.hash), m.numbered, ap length c.push_reserved.ensures.items, length_push m.hashes.items c.args.hash)
 
 pub invariant_of-self-clause-paired : goal.invariant_of-self-clause-paired

@@ -1,5 +1,5 @@
 use Rattle.cdb_make.proofs.Words.{AreFirst, Enters, records_at, take, ◌≡◌}
-use Rattle.cdb_make.proofs.maker.Maker.enter_all.Given as goal
+use Rattle.cdb_make.proofs.maker.Maker.enter_each.Given as goal
 
 -- the records that have an entry so far
 abbrev pub invariant-loop : goal.invariant-loop

@@ -1,13 +1,13 @@
-use Rattle.cdb_make.proofs.Words.{AreBytes, AreBytes-drop, KeyValue, List, [], ap, arith, drop, key_hash, length, prefix_record, prefix_size, record_bytes, record_size, refl, subst, sym, take, whole_size, ℕ, ◌++◌, ◌+◌, ◌-◌, ◌<◌, ◌∙◌, ◌∷◌, ◌≡◌, ◌≤◌}
+use Rattle.cdb_make.proofs.Words.{AreBytes, AreBytes-drop, Bool, KeyValue, List, [], ap, arith, cond, drop, key_hash, length, prefix_record, prefix_size, record_bytes, record_size, refl, subst, sym, take, true, whole_size, ℕ, ◌++◌, ◌+◌, ◌-◌, ◌<◌, ◌∙◌, ◌∷◌, ◌≡◌, ◌≤◌}
 use Rattle.std.specs.Prelude.{sum_by}
 use Rattle.cdb_store.specs.Images.{ImagesHold as Stored}
 use Rattle.cdb_form.proofs.Bytes.HeadLemmas.{rest_of}
-use Rattle.cdb_make.specs.Views.Roll.{IsSought}
+use Rattle.cdb_make.specs.Chains.{second_hash}
 use Rattle.cdb_make.specs.Views.Appending.{Enters, first_size, records_at}
 use Rattle.cdb_make.proofs.Appends.{entered_size, enters_more, stops_entering}
 use Rattle.cdb_make.proofs.Bytes.Fitting.{first_more, prefix_is_record, prefix_sized, next_fits, next_of, next_splits, next_stored, next_sums, next_within, sum_take}
 use Rattle.cdb_make.proofs.Bytes.Written.{on_any_err}
-use Rattle.cdb_make.proofs.maker.Maker.enter_all.Goals as goal
+use Rattle.cdb_make.proofs.maker.Maker.enter_each.Goals as goal
 
 pub first_record-first-requires : goal.first_record-first-requires
 first_record-first-requires g c =
@@ -84,7 +84,8 @@ loop-preserved g c =
     let cut = next_splits w bytes k place some i.first fits in
     let hashed : c.hash-hash.result ≡ key_hash r.key = c.hash-hash.ensures ∙ ap key_hash (c.first_record-first.ensures.key ∙ ap (λ (v : List ℕ). (prefix_record w v).key) (rest_of place (length bytes) bytes refl)) in
     let key : c.first_record-first.result.key.now ≡ r.key = c.first_record-first.ensures.key ∙ ap (λ (v : List ℕ). (prefix_record w v).key) (rest_of place (length bytes) bytes refl) in
-    let numbered : IsSought c.loop.self.roll r.key c.sought_by_look-sought.result = subst (λ (v : List ℕ). IsSought c.loop.self.roll v c.sought_by_look-sought.result) key c.sought_by_look-sought.ensures in
+    let numbered : c.loop.self.roll.tagged ≡ true → c.number_of-number.result ≡ second_hash r.key = λ yes.
+    c.number_of-number.ensures ∙ ap (λ (v : Bool). cond v (second_hash c.first_record-first.result.key.now) c.hash-hash.result) (c.requires.tagged ∙ sym i.tagged ∙ yes) ∙ ap second_hash key in
     let here : c.loop.self.roll.end ≡ m.roll.end + place = i.entered.end ∙ ap (λ (n : ℕ). m.roll.end + n) (sym i.first.sum) in
     let was = next_stored w m.roll.end bytes k place c.args.count (first_size w bytes c.args.count) some are i.first c.requires.first c.loop-test.true c.requires.written in
     let stored : Stored c.loop.self.roll.end (record_bytes w r) (g.S.Store.image c.loop.self.store) =
@@ -92,7 +93,7 @@ loop-preserved g c =
     record {
       first = first_more w bytes k place c.first_record-first.result.size some are i.first is (omega arith);
       entered = subst (λ (v : List KeyValue). Enters m c.enter.new.self v) (sym cut.1)
-          (enters_more m c.loop.self c.enter.new.self (take k all) r i.entered (e.enters r (prefix_is_record w (drop place bytes) (AreBytes-drop place bytes are)) hashed numbered.tagged sized stored));
+          (enters_more m c.loop.self c.enter.new.self (take k all) r i.entered (e.enters r (prefix_is_record w (drop place bytes) (AreBytes-drop place bytes are)) hashed numbered sized stored));
       store = c.enter.ensures.store ∙ i.store;
       lazy = c.enter.ensures.lazy ∙ i.lazy;
       tagged = c.enter.ensures.tagged ∙ i.tagged;
