@@ -17,6 +17,7 @@ use Rattle.cdb_show.specs.declared.inputs.SharedWindow.TheVariants.{InHand, Unre
 use Rattle.cdb_show.specs.declared.window.Window.{Window}
 use Rattle.cdb_show.proofs.InputsInTurn.{read_then, some_failed, some_through}
 use Rattle.cdb_show.proofs.NextInputs.{begins_none}
+use Rattle.cdb_show.proofs.SpelledInputs.{from_after}
 
 -- ---- a stop, by its fault
 
@@ -87,14 +88,6 @@ module _ {T : Type 0} (work : Work T) (n : ℕ) (a d : Feed) (Takes : (List ℕ 
 
 -- ---- the reader of an input
 
-from_lost : (a b c : Feed) (held : List ℕ) (P : List ℕ → List ℕ → Type 0) → FromTo a b P → Consumes b c held → FromTo a c (λ text left. (rest : List ℕ) × P text rest)
-from_lost a b c held P f lost = record {
-  known = λ k. lost.known (f.known k);
-  back = λ k whole rest m.
-      let t = f.back k whole (held ++ rest) (lost.back (f.known k) whole rest m) in
-      (t.0, t.1, (held ++ rest, t.2));
-}
-
 -- all bytes of a window, or of its reader, determine those that are left
 pub one_window : {F : Type 0} (feed : F → Feed) (w : Window F) → ((reader : F) (whole x y : List ℕ) → (feed reader).may whole x → (feed reader).may whole y → x ≡ y) → (whole x y : List ℕ) → (feed_of feed w).may whole x → (feed_of feed w).may whole y → x ≡ y
 one_window feed w one whole x y a b = same_held (one w.reader whole) a b
@@ -104,7 +97,7 @@ module _ {J I : Type 0} (own : J → Feed) (shared : I → Feed) where
   pub own_takes : (turn : InputReader J) (reader left : J) (a b : Feed) (held : List ℕ) (s : SharedWindow I) → turn ≡ Own reader → Keeps (own reader) a → Consumes b (own left) held → (P : List ℕ → List ℕ → Type 0) → FromTo a b P → TakesOne own (shared_feed shared) P turn (Own left) s s
   own_takes turn reader left a b held s is kept lost P f =
       subst (λ t. TakesOne own (shared_feed shared) P t (Own left) s s) (sym is)
-      (from_lost (own reader) b (own left) held P (from_behind (own reader) a b [] P kept f) lost, nothing_taken (shared_feed shared s))
+      (from_after (own reader) b (own left) P (λ text left. (rest : List ℕ) × P text rest) held (from_behind (own reader) a b [] P kept f) lost (λ text rest so. (held ++ rest, so)), nothing_taken (shared_feed shared s))
 
   -- the shared one stays in its window
   pub shared_takes : (turn after : InputReader J) (old new : SharedWindow I) (a : Feed) → turn ≡ Shared → after ≡ Shared → Keeps (shared_feed shared old) a → (P : List ℕ → List ℕ → Type 0) → FromTo a (shared_feed shared new) P → TakesOne own (shared_feed shared) P turn after old new

@@ -1,33 +1,31 @@
 -- What a reader took of the items of an input, whatever its form and whatever bytes agree with it.
-use Rattle.cdb_show.proofs.Words.{BeginsWithItems, Bool, Feed, FromTo, HasFaults, HasInputFault, HasItemFault, InputsBeginWith, IsInput, IsInputOf, IsOfText, KeyValue, List, Puts, Spells, TextFault, [], false, from_weaker, map, refl, true, ℕ, ◌++◌, ◌<◌, ◌∷◌, ◌≡◌, ◌≢◌}
+use Rattle.cdb_show.proofs.Words.{BeginsWithItems, Bool, Feed, FromTo, HasFaults, HasInputFault, HasItemFault, InputsBeginWith, IsInput, IsInputOf, IsOfText, KeyValue, List, Puts, Spells, TextFault, [], false, from_weaker, length, map, refl, true, ℕ, ◌++◌, ◌+◌, ◌<◌, ◌∙◌, ◌∷◌, ◌≡◌, ◌≢◌, ◌≤◌}
 use Rattle.cdb_form.specs.Views.FormReader as fed
+use Rattle.cdb_form.specs.Views.Fill.{Fills}
 use Rattle.cdb_form.specs.Text.Parse.{Change, Putting, SpellsChange}
+use Rattle.cdb_form.specs.declared.text.fill.Filled.{Filled}
 use Rattle.cdb_form.specs.declared.text.fault.TextFault.TheVariants.{Input, NoMemory}
 use Rattle.cdb_form.specs.declared.text.form_reader.FormReader.{FormReader}
+use Rattle.cdb_form.proofs.Filling.{fills_as}
 use Rattle.cdb_form.proofs.NativeTexts.Spelling.{changes, records}
+use Rattle.cdb_form.proofs.NativeTexts.TextLaws.{spelled_puts}
 use Rattle.cdb_command.specs.declared.style.Style.TheVariants as style
-use Rattle.cdb_show.specs.Views.ItemReader.{Fails, GivesEnd, GivesItem, HasPeeked, IsNew, asks_left, form_of, reader_of}
+use Rattle.cdb_show.specs.Views.ItemReader.{Fails, GivesEnd, GivesItem, GivesPuts, IsNew, asks_left, form_of, reader_of}
 use Rattle.cdb_show.specs.declared.runs.item_reader.ItemReader.{ItemReader}
 use Rattle.cdb_show.specs.declared.runs.item_reader.ItemReader.TheVariants.{Form, Map}
 use Rattle.cdb_show.proofs.KeyInputs.{more_puts}
-use Rattle.cdb_show.proofs.MapInputs.{GaveLines, lines_all, lines_begin, lines_behind, lines_fault, lines_more, lines_none, lines_own, lines_told}
-use Rattle.cdb_show.proofs.SpelledInputs.{GaveSpelled, spelled_all, spelled_begins, spelled_behind, spelled_fault, spelled_more, spelled_none}
+use Rattle.cdb_show.proofs.MapInputs.{GaveLines, lines_all, lines_begin, lines_behind, lines_each, lines_fault, lines_more, lines_none, lines_own, lines_told}
+use Rattle.cdb_show.proofs.SpelledInputs.{GaveSpelled, spelled_all, spelled_begins, spelled_behind, spelled_each, spelled_fault, spelled_more, spelled_none}
 
--- ---- a record that is taken
+-- ---- the records that a buffer is filled with
 
--- of a native text, whose records an amending one puts
-put_of : {F L : Type 0} (g : ℕ) (feed : F → Feed) (removals : Bool) (t u : FormReader F L) (r : KeyValue) → fed.GivesItem SpellsChange g feed t u (Putting r) → GivesItem g feed (Form t removals) (Form u removals) (Putting r)
-put_of g feed true t u r h = h
-put_of g feed false t u r h = record {
-  reads = record { text = h.reads.text; spells = h.reads.spells; read = h.reads.read; counted = h.reads.counted };
-  going = h.going;
-  fewer = h.fewer;
-  spends = h.spends;
-}
+puts_of : {F L : Type 0} (g : ℕ) (feed : F → Feed) (removals : Bool) (t u : FormReader F L) (rs : List KeyValue) → fed.GivesItems Spells g feed t u rs → GivesPuts g feed (Form t removals) (Form u removals) rs
+puts_of g feed true t u rs h = h
+puts_of g feed false t u rs h = h
 
-pub peeked_put : {F L : Type 0} (g n : ℕ) (held : F → List ℕ) (feed : F → Feed) (removals : Bool) (old : ItemReader F L) (t u : FormReader F L) → old ≡ Form t removals → ((r : KeyValue) → fed.HasPeeked held g t n r → fed.GivesItem SpellsChange g feed t u (Putting r))
-    → (r : KeyValue) → HasPeeked held g old n r → GivesItem g feed old (Form u removals) (Putting r)
-peeked_put g n held feed removals old t u e takes = rw e (λ r peeked. put_of g feed removals t u r (takes r peeked))
+pub form_fills : {F L : Type 0} (g : ℕ) (feed : F → Feed) (removals : Bool) (old : ItemReader F L) (t u : FormReader F L) (w top : ℕ) (into filled : List ℕ) (from : ℕ) (f : Filled) → old ≡ Form t removals → Fills (fed.GivesItems Spells g feed t u) w top into filled from f
+    → Fills (GivesPuts g feed old (Form u removals)) w top into filled from f
+form_fills g feed removals old t u w top into filled from f e fills = rw e (fills_as _ (GivesPuts g feed (Form t removals) (Form u removals)) w top into filled from f fills (puts_of g feed removals t u fills.records fills.come))
 
 -- ---- the items so far
 
@@ -45,8 +43,8 @@ module _ {F L : Type 0} (g : ℕ) (feed : F → Feed) where
 
   pub items_more : (start : Feed) (t u : ItemReader F L) (items : List Change) (c : Change) → GaveItems g feed start t items → GivesItem g feed t u c → GaveItems g feed start u (items ++ c ∷ [])
   items_more start (Form t true) (Form u true) items c h m = (m.going, spelled_more SpellsChange g feed start t.source u.source items c h.1 m.reads m.spends)
-  items_more start (Form t false) (Form u false) items (Putting r) h m = (h.0 ++ r ∷ [], more_puts items h.0 r h.1, m.going, spelled_more Spells g feed start t.source u.source h.0 r h.3 m.reads m.spends)
-  items_more start (Map t) (Map u) items (Putting r) h m = (h.0 ++ r ∷ [], more_puts items h.0 r h.1, lines_more feed start t u h.0 r h.2 m)
+  items_more start (Form t false) (Form u false) items (Putting r) h m = (h.0 ++ r ∷ [], more_puts items h.0 (r ∷ []) h.1, m.going, spelled_more Spells g feed start t.source u.source h.0 r h.3 m.reads m.spends)
+  items_more start (Map t) (Map u) items (Putting r) h m = (h.0 ++ r ∷ [], more_puts items h.0 (r ∷ []) h.1, lines_more feed start t u h.0 r h.2 m)
   items_more start t u items c h m = absurd m
 
   pub items_fewer : (t u : ItemReader F L) (c : Change) → GivesItem g feed t u c → asks_left u < asks_left t
@@ -60,6 +58,26 @@ module _ {F L : Type 0} (g : ℕ) (feed : F → Feed) where
   items_form (Form t false) (Form u false) (Putting r) m = refl
   items_form (Map t) (Map u) (Putting r) m = refl
   items_form t u c m = absurd m
+
+  -- ---- some records more
+
+  pub items_each : (start : Feed) (t u : ItemReader F L) (items : List Change) (rs : List KeyValue) → GaveItems g feed start t items → GivesPuts g feed t u rs → GaveItems g feed start u (items ++ map Putting rs)
+  items_each start (Form t true) (Form u true) items rs h m = (m.going ∙ h.0, spelled_each SpellsChange g feed start t.source u.source items (map Putting rs) m.text h.1 (spelled_puts g rs m.text [] m.spelled) m.takes m.spends)
+  items_each start (Form t false) (Form u false) items rs h m = (h.0 ++ rs, more_puts items h.0 rs h.1, m.going ∙ h.2, spelled_each Spells g feed start t.source u.source h.0 rs m.text h.3 m.spelled m.takes m.spends)
+  items_each start (Map t) (Map u) items rs h m = (h.0 ++ rs, more_puts items h.0 rs h.1, lines_each feed start t u h.0 rs h.2 m)
+  items_each start t u items rs h m = absurd m
+
+  pub puts_fewer : (t u : ItemReader F L) (rs : List KeyValue) → GivesPuts g feed t u rs → asks_left u + length rs ≤ asks_left t
+  puts_fewer (Form t true) (Form u true) rs m = m.fewer
+  puts_fewer (Form t false) (Form u false) rs m = m.fewer
+  puts_fewer (Map t) (Map u) rs m = m.fewer
+  puts_fewer t u rs m = absurd m
+
+  pub puts_form : (t u : ItemReader F L) (rs : List KeyValue) → GivesPuts g feed t u rs → form_of u ≡ form_of t
+  puts_form (Form t true) (Form u true) rs m = refl
+  puts_form (Form t false) (Form u false) rs m = refl
+  puts_form (Map t) (Map u) rs m = refl
+  puts_form t u rs m = absurd m
 
   -- ---- the end, and how far it is
 

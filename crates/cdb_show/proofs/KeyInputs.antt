@@ -31,8 +31,8 @@ keys_push items item key e = map-append key_of items (item ∷ []) ∙ ap (λ k.
 pub keys_behind : (before : List (List ℕ)) (items : List Change) (item : Change) (key : List ℕ) → key_of item ≡ key → (before ++ keys_of items) ++ key ∷ [] ≡ before ++ keys_of (items ++ item ∷ [])
 keys_behind before items item key e = append_assoc before (keys_of items) (key ∷ []) ∙ ap (λ k. before ++ k) (sym (keys_push items item key e))
 
-pub more_puts : (items : List Change) (given : List KeyValue) (r : KeyValue) → items ≡ map Putting given → items ++ Putting r ∷ [] ≡ map Putting (given ++ r ∷ [])
-more_puts items given r e = ap (λ cs. cs ++ Putting r ∷ []) e ∙ sym (map-append Putting given (r ∷ []))
+pub more_puts : (items : List Change) (given rs : List KeyValue) → items ≡ map Putting given → items ++ map Putting rs ≡ map Putting (given ++ rs)
+more_puts items given rs e = ap (λ cs. cs ++ map Putting rs) e ∙ sym (map-append Putting given rs)
 
 more_listed : (items : List Change) (listing : List (List ℕ)) (key : List ℕ) → items ≡ map listed listing → items ++ listed key ∷ [] ≡ map listed (listing ++ key ∷ [])
 more_listed items listing key e = ap (λ cs. cs ++ listed key ∷ []) e ∙ sym (map-append listed listing (key ∷ []))
@@ -51,7 +51,7 @@ module _ {F L : Type 0} (g : ℕ) (feed : F → Feed) where
   keys_more start (reader.Map t) (reader.Map u) items key h m = record {
     item = Putting m.given;
     has = m.has;
-    gave = (h.0 ++ m.given ∷ [], more_puts items h.0 m.given h.1, lines_more feed start t u h.0 m.given h.2 m.gives);
+    gave = (h.0 ++ m.given ∷ [], more_puts items h.0 (m.given ∷ []) h.1, lines_more feed start t u h.0 m.given h.2 m.gives);
   }
   keys_more start t u items key h m = absurd m
 

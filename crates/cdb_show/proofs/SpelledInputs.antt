@@ -1,22 +1,30 @@
 -- What a reader of spelled items took of an input, whatever bytes agree with it.
-use Rattle.cdb_show.proofs.Words.{Consumes, Feed, FromTo, List, Source, TextFault, [], arith, budget, codes, drop, from_both, from_kept, from_taken, from_then, from_weaker, length, length-take-le, nothing_taken, refl, subst, sym, take, take-append-drop, ℕ, ◌++◌, ◌+◌, ◌^◌, ◌∷◌, ◌≡◌, ◌≤◌}
+use Rattle.cdb_show.proofs.Words.{Consumes, Feed, FromTo, List, Source, TextFault, [], append-nil, arith, budget, codes, drop, from_both, from_kept, from_taken, from_then, from_weaker, length, length-take-le, nothing_taken, refl, subst, sym, take, take-append-drop, ℕ, ◌++◌, ◌+◌, ◌^◌, ◌∷◌, ◌≡◌, ◌≤◌}
 use Rattle.cdb_form.specs.Views.FormReader.{IsFaultOf, MeetsFault, ReadsItem}
 use Rattle.cdb_form.specs.Text.Form.{Reads, Spelled}
+use Rattle.cdb_form.specs.Views.Source.{Takes}
 use Rattle.cdb_form.specs.Views.TextFault.{IsSpent}
 use Rattle.cdb_form.specs.declared.text.fault.TextFault.TheVariants.{Ended}
 use Rattle.cdb_form.proofs.NativeTexts.Spelling.{IsSpelling}
-use Rattle.cdb_form.proofs.NativeTexts.WholeForm.{SoFar, so_far_fault, so_far_more, so_far_part}
+use Rattle.cdb_form.proofs.NativeTexts.WholeForm.{SoFar, so_far_both, so_far_fault, so_far_part}
 use Rattle.cdb_show.specs.Runs.Inputs.{HasFaultBehind, HasFaultOf}
 
 -- it took the spelling of these items
 abbrev pub GaveSpelled : {R X : Type 0} → (ℕ → List ℕ → X → Type 0) → ℕ → (R → Feed) → Feed → Source R → List X → Type 0
 GaveSpelled S g feed start s xs = FromTo start (feed s.reader) (λ text rest. SoFar S g text rest s.taken xs) × (2 ^ 48 ≤ budget s)
 
--- what is said of a text and of what is left once bytes were taken, is said of it still
+-- what is said of a text and of what is left, once bytes were taken
+pub from_after : (a b c : Feed) (P Q : List ℕ → List ℕ → Type 0) (bytes : List ℕ) → FromTo a b P → Consumes b c bytes → ((text rest : List ℕ) → P text (bytes ++ rest) → Q text rest) → FromTo a c Q
+from_after a b c P Q bytes f taken h = record {
+  known = λ k. taken.known (f.known k);
+  back = λ k whole rest m.
+      let t = f.back k whole (bytes ++ rest) (taken.back (f.known k) whole rest m) in
+      (t.0, t.1, h t.0 rest t.2);
+}
+
+-- what is said of the text alone is said of it still
 pub from_lost : (a b c : Feed) (P : List ℕ → List ℕ → Type 0) (B : List ℕ → Type 0) (bytes : List ℕ) → FromTo a b P → Consumes b c bytes → ((text rest : List ℕ) → P text rest → B text) → FromTo a c (λ text rest. B text)
-from_lost a b c P B bytes f lost h =
-    from_weaker a c _ (λ text rest. B text) (from_then a b c P (λ text rest. text ≡ bytes ++ rest) f (from_taken b c bytes (λ text rest. text ≡ bytes ++ rest) lost (λ rest. refl)))
-    (λ text rest so. h text so.0 so.1)
+from_lost a b c P B bytes f lost h = from_after a b c P (λ text rest. B text) bytes f lost (λ text rest so. h text (bytes ++ rest) so)
 
 module _ {R X : Type 0} (S : ℕ → List ℕ → X → Type 0) (g : ℕ) (feed : R → Feed) where
   pub spelled_none : (s : Source R) → s.taken ≡ 0 → s.asks ≡ 2 ^ 48 → GaveSpelled S g feed (feed s.reader) s []
@@ -26,23 +34,20 @@ module _ {R X : Type 0} (S : ℕ → List ℕ → X → Type 0) (g : ℕ) (feed 
     omega (arith, taken, asks),
   )
 
-  pub spelled_more : (start : Feed) (s t : Source R) (xs : List X) (x : X) → GaveSpelled S g feed start s xs → ReadsItem S g (feed s.reader) (feed t.reader) s.taken t.taken x → budget s ≤ budget t → GaveSpelled S g feed start t (xs ++ x ∷ [])
-  spelled_more start s t xs x h r spends = (
-    from_weaker start (feed t.reader) _ (λ text rest. SoFar S g text rest t.taken (xs ++ x ∷ []))
-        (from_then start (feed s.reader) (feed t.reader) (λ text rest. SoFar S g text rest s.taken xs) (λ text rest. text ≡ r.text ++ rest) h.0
-        (from_taken (feed s.reader) (feed t.reader) r.text (λ text rest. text ≡ r.text ++ rest) r.read (λ rest. refl)))
-        (λ text rest so.
-        so_far_more S g text so.0 rest r.text s.taken t.taken xs x so.1 r.spells so.2 r.counted),
+  pub spelled_each : (start : Feed) (s t : Source R) (xs ys : List X) (piece : List ℕ) → GaveSpelled S g feed start s xs → Spelled S g ys piece [] → Takes feed s t piece → budget s ≤ budget t → GaveSpelled S g feed start t (xs ++ ys)
+  spelled_each start s t xs ys piece h spelled takes spends = (
+    from_after start (feed s.reader) (feed t.reader) (λ text rest. SoFar S g text rest s.taken xs) (λ text rest. SoFar S g text rest t.taken (xs ++ ys)) piece h.0 takes.read
+        (λ text rest so. so_far_both S g text piece rest s.taken t.taken xs ys so spelled takes.counted),
     omega (arith, h.1, spends),
   )
 
+  pub spelled_more : (start : Feed) (s t : Source R) (xs : List X) (x : X) → GaveSpelled S g feed start s xs → ReadsItem S g (feed s.reader) (feed t.reader) s.taken t.taken x → budget s ≤ budget t → GaveSpelled S g feed start t (xs ++ x ∷ [])
+  spelled_more start s t xs x h r spends =
+      spelled_each start s t xs (x ∷ []) r.text h (r.text, [], r.spells, sym (append-nil r.text), refl) (record { read = r.read; counted = r.counted }) spends
+
   -- after the newline that ends the text
   pub spelled_all : (start : Feed) (s t : Source R) (xs : List X) → GaveSpelled S g feed start s xs → Consumes (feed s.reader) (feed t.reader) (codes "\n") → FromTo start (feed t.reader) (Reads S g xs)
-  spelled_all start s t xs h newline =
-      from_weaker start (feed t.reader) _ (Reads S g xs)
-      (from_then start (feed s.reader) (feed t.reader) (λ text rest. SoFar S g text rest s.taken xs) (λ text rest. text ≡ codes "\n" ++ rest) h.0
-      (from_taken (feed s.reader) (feed t.reader) (codes "\n") (λ text rest. text ≡ codes "\n" ++ rest) newline (λ rest. refl)))
-      (λ text rest so. subst (Spelled S g xs text) so.2 so.1.0)
+  spelled_all start s t xs h newline = from_after start (feed s.reader) (feed t.reader) (λ text rest. SoFar S g text rest s.taken xs) (Reads S g xs) (codes "\n") h.0 newline (λ text rest so. so.0)
 
   pub spelled_begins : (start : Feed) (s : Source R) (xs : List X) → GaveSpelled S g feed start s xs → FromTo start (feed s.reader) (λ text rest. (more : List ℕ) × Spelled S g xs text more)
   spelled_begins start s xs h =

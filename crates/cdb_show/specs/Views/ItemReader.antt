@@ -44,10 +44,15 @@ pub record IsNew {F L : Type 0} (t : ItemReader F L) : Type 0 where
   pub taken : taken_of t ≡ 0
   pub asks : asks_left t ≡ 2 ^ 48
 
--- the next item is a record that is whole at hand, spelled by n bytes there
-abbrev pub HasPeeked : {F L : Type 0} → (F → List ℕ) → ℕ → ItemReader F L → ℕ → KeyValue → Type 0
-HasPeeked held greatest (Form t removals) n r = fed.HasPeeked held greatest t n r
-HasPeeked held greatest (Map t) n r = fed_map.HasPeeked held t n r
+-- a call gave these records, as a reader of its form does
+abbrev pub GivesPuts : {F L : Type 0} → ℕ → (F → Feed) → ItemReader F L → ItemReader F L
+    → List KeyValue → Type 0
+GivesPuts greatest feed (Form old true) (Form new true) rs =
+    fed.GivesItems Spells greatest feed old new rs
+GivesPuts greatest feed (Form old false) (Form new false) rs =
+    fed.GivesItems Spells greatest feed old new rs
+GivesPuts greatest feed (Map old) (Map new) rs = fed_map.GivesRecords feed old new rs
+GivesPuts greatest feed old new rs = ⊥
 
 -- a call gave an item, reported the end, or answered a fault, as a reader of its form does
 abbrev pub GivesItem : {F L : Type 0} → ℕ → (F → Feed) → ItemReader F L → ItemReader F L → Change

@@ -1,17 +1,13 @@
 // The items of an input, whatever its form, of any bytes that agree with what was taken of it.
-ghost use Rattle.std.specs.Prelude.{◌≡◌, true, false, Some, None, IfErr, IfOk, IfSome, MatchOption};
-ghost use Rattle.cdb_form.specs.Format.{KeyValue};
-ghost use Rattle.cdb_form.specs.Text.Parse.{Putting};
+ghost use Rattle.std.specs.Prelude.{◌≡◌, ◌≤◌, length, true, false, Some, None, IfErr, IfOk, MatchOption};
+ghost use Rattle.cdb_form.specs.Views.Fill.{Fills};
 ghost use Rattle.cdb_form.specs.Views.Pairs.{change_in};
-ghost use Rattle.cdb_form.specs.Views.Prefix.{shown_by};
 ghost use Rattle.cdb_form.specs.declared.item.ItemKind.TheVariants.{Put};
 ghost use Rattle.cdb_show.specs.Runs.Inputs.{input_form};
-ghost use Rattle.cdb_show.specs.Views.ItemReader.{Fails, GivesEnd, GivesItem, HasPeeked, IsNew, form_of, reader_of};
+ghost use Rattle.cdb_show.specs.Views.ItemReader.{Fails, GivesEnd, GivesItem, GivesPuts, IsNew, form_of, reader_of};
 
 use cdb_command::Style;
-use cdb_form::{
-    AtHand, Feeds, FormReader, ItemKind, MapReader, PeekedRecord, Record, TextFault, Width,
-};
+use cdb_form::{AtHand, Feeds, Filled, FormReader, ItemKind, MapReader, Record, TextFault, Width};
 use std::alloc::Global;
 
 /// Returns `Put` if a text that only puts records gave one more.
@@ -56,27 +52,18 @@ impl<F: Feeds, L: Width> ItemReader<F, L> {
         }
     }
 
-    /// The record that the next item puts, if all its bytes are at hand. Nothing is taken.
+    /// Puts the records at hand behind the first `held` bytes of a buffer, as a file has them, as
+    /// long as there is room, and takes them. A removal ends it, and it may end early: go on with
+    /// `read_into`.
     #[inline(always)]
-    pub fn peek<A: AtHand<F>>(&self) -> Option<PeekedRecord<'_>>
-        ensures { IfSome result (λ f. HasPeeked A.held L.GREATEST self.now f.len (shown_by f)) }
+    pub fn fill<A: AtHand<F>>(&mut self, into: &mut [u8], held: usize) -> Filled
+        requires { held ≤ length into.old }
+        ensures { Fills (GivesPuts L.GREATEST F.feed self.old self.new)
+            L.WORD L.TOP into.old into.new held result }
     {
         match self {
-            ItemReader::Form { reader, .. } => reader.peek::<A>(),
-            ItemReader::Map(text) => text.peek::<A>(),
-        }
-    }
-
-    /// Takes the record that `peek` shows.
-    #[inline(always)]
-    pub fn take_peeked<A: AtHand<F>>(&mut self, len: usize)
-        requires { (r : KeyValue) × HasPeeked A.held L.GREATEST self.old len r }
-        ensures { (r : KeyValue) → HasPeeked A.held L.GREATEST self.old len r
-            → GivesItem L.GREATEST F.feed self.old self.new (Putting r) }
-    {
-        match self {
-            ItemReader::Form { reader, .. } => reader.take_peeked::<A>(len),
-            ItemReader::Map(text) => text.take_peeked::<A>(len),
+            ItemReader::Form { reader, .. } => reader.fill::<A>(into, held),
+            ItemReader::Map(text) => text.fill::<L, A>(into, held),
         }
     }
 
