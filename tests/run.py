@@ -121,6 +121,7 @@ def parts_of(program, is_gate):
         Part("tests/cli/kills.py", (program,)),
         Part("tests/cli/taken.py", (program,)),
         Part("tests/cli/inputs.py", (program,)),
+        Part("tests/cli/batches.py", (program,)),
         Part("tests/cli/locked.py", (program,)),
         Part("tests/cli/orders.py", (program, orders), (c,), (orders,)),
         Part("tests/cli/permissions.py", (program,)),

@@ -56,6 +56,8 @@ LATER = [*SOME[1:4], (b"key94", b"again"), *SOME[5:], (b"new", b"one")]
 # Keys that a query looks up, of which one has no value and one a long one.
 KEYS = b"".join(b"+%d:%s\n" % (len(key), key) for key in [*(key for key, _ in RECORDS[90:110]), b"none"]) + b"\n"
 CHANGES = b"-4:key3\n+4,5:key7->again\n+3,3:new->one\n" * 3 + b"\n"
+# Records of more than a first batch, a removal of the last one, and others before what is no text.
+ADDITIONS = text_of(RECORDS[:40])[:-1] + b"-5:key39\n" + text_of(RECORDS[40:60])[:-1]
 COMMANDS = {
     "create on output": Command(["-c", "-"], TEXT),
     "create": Command(["-c", "x"], TEXT, KEPT),
@@ -68,6 +70,8 @@ COMMANDS = {
     "create beside an old temporary file": Command(["-c", "x"], TEXT, {**KEPT, "x.tmp": b"old"}),
     "create with warnings on output": Command(["-cmw", "-"], lines(40)),
     "amending": Command(["-cw", "-b", "base", "x"], CHANGES, {**KEPT, "base": DATABASE}),
+    "amending by additions": Command(["-c", "-b", "base", "x"], ADDITIONS + b"\n", {**KEPT, "base": OLD}),
+    "amending by a text with an error": Command(["-c", "-b", "base", "x"], ADDITIONS + b"?", {**KEPT, "base": OLD}),
     "amending the database itself": Command(["-cr", "-b", "x", "x"], CHANGES, {"x": DATABASE}),
     "wide create": Command(["-cW", "x"], TEXT, KEPT),
     "query": Command(["-q", "x", "key7"], b"", {"x": DATABASE}),

@@ -15,7 +15,7 @@ use Rattle.cdb_tool.proofs.ToldLines.{part_then, tells_none, tells_then}
 
 -- ---- the course over one item more
 
-course_next : (w : ℕ) (t : Task) (cs : List Incoming) (c : Incoming) → (course_of w t cs).ended ≡ None → course_of w t (cs ++ c ∷ []) ≡ with_change w t.options.make (course_of w t cs) c.input c.number c.it
+pub course_next : (w : ℕ) (t : Task) (cs : List Incoming) (c : Incoming) → (course_of w t cs).ended ≡ None → course_of w t (cs ++ c ∷ []) ≡ with_change w t.options.make (course_of w t cs) c.input c.number c.it
 course_next w t cs c going =
     let s = course_of w t cs in
     fold-append (with_next w t.options.make) (at_start t) cs (c ∷ []) ∙ ap (λ e. if is_going e then with_change w t.options.make s c.input c.number c.it else s) going
@@ -29,7 +29,7 @@ course_put w t cs i n r put =
     let s = course_of w t cs in
     record { records = put_list (mode_of t.options.make) r s.records; told = s.told ++ told t.options.make i n r.key (Ok put); ended = ends t.options.make (Ok put) }
 
-put_fits : (w : ℕ) (o : RunOptions) (s : Course) (i n : ℕ) (r : KeyValue) (put : Put) → fits w o.make.limit (mode_of o.make) r s.records ≡ true → put ≡ put_answer (mode_of o.make) r s.records
+pub put_fits : (w : ℕ) (o : RunOptions) (s : Course) (i n : ℕ) (r : KeyValue) (put : Put) → fits w o.make.limit (mode_of o.make) r s.records ≡ true → put ≡ put_answer (mode_of o.make) r s.records
     → with_put w o.make s i n r ≡ record { records = put_list (mode_of o.make) r s.records; told = s.told ++ told o.make i n r.key (Ok put); ended = ends o.make (Ok put) }
 put_fits w o s i n r put fit answer =
     let rs = put_list (mode_of o.make) r s.records in
@@ -120,7 +120,7 @@ put_told t cs i n r start mid end old new put f h wide puts comes limit x = reco
 
 -- ---- a put that was refused
 
-full_so : {S L : Type 0} {s : Ghosts S} {l : Widths L} (t : Task) (cs : List Incoming) (i n : ℕ) (r : KeyValue) (start mid : Option (List ℕ)) (old : Maker S L s l) → Goes l.WORD t cs start mid → limit_of old ≡ t.options.make.limit
+pub full_so : {S L : Type 0} {s : Ghosts S} {l : Widths L} (t : Task) (cs : List Incoming) (i n : ℕ) (r : KeyValue) (start mid : Option (List ℕ)) (old : Maker S L s l) → Goes l.WORD t cs start mid → limit_of old ≡ t.options.make.limit
     → limit_of old < file_size l.WORD (put_list (mode_of t.options.make) r (course_of l.WORD t cs).records) → StopsSo l.WORD t (cs ++ putting i n r ∷ []) start mid (Make make.TooBig)
 full_so {l = l} t cs i n r start mid old goes limit large =
     let s = course_of l.WORD t cs in
@@ -170,7 +170,7 @@ stands_whole : {S L : Type 0} {s : Ghosts S} {l : Widths L} (t : Task) (cs : Lis
     → MakeStandsAt t cs start mid new
 stands_whole {l = l} t cs start mid old new h comes count stays = stands_so t cs start mid old new h comes count (λ usable. stays.holds (course_of l.WORD t cs).records h.holds)
 
-stands_broken : {S L : Type 0} {s : Ghosts S} {l : Widths L} (t : Task) (cs : List Incoming) (start mid : Option (List ℕ)) (old new : Maker S L s l) → InCourse t cs start mid old → ComesFrom (s.image old.store) (s.image new.store) → told_count new ≡ told_count old → new.broken ≡ true
+pub stands_broken : {S L : Type 0} {s : Ghosts S} {l : Widths L} (t : Task) (cs : List Incoming) (start mid : Option (List ℕ)) (old new : Maker S L s l) → InCourse t cs start mid old → ComesFrom (s.image old.store) (s.image new.store) → told_count new ≡ told_count old → new.broken ≡ true
     → MakeStandsAt t cs start mid new
 stands_broken t cs start mid old new h comes count broken = stands_so t cs start mid old new h comes count (λ usable. absurd (let k : true ≡ false = sym broken ∙ usable in cc))
 

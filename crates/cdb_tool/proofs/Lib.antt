@@ -1,5 +1,6 @@
 pub mod WholeRuns
 pub mod BaseRecords
+pub mod Batches
 pub mod Courses
 pub mod InputRuns
 pub mod FedRuns
@@ -10,5 +11,8 @@ pub mod RestoreLaws
 pub mod BaseDifferences
 pub mod MadeOf
 pub mod ToldLines
+pub mod Batched
+pub mod InputBatches
+pub mod FrontItems
 mod MakerSteps
 mod Words

@@ -1,5 +1,5 @@
 -- Steps of a run, one after another.
-use Rattle.cdb_tool.proofs.Words.{Err, Fault, Follows, Ghosts, Maker, OutputSays, TextFault, follows_then, subst, ℕ, ⊤, ◌<◌, ◌∙◌, ◌≡◌}
+use Rattle.cdb_tool.proofs.Words.{Err, Fault, Follows, Ghosts, Maker, Ok, OutputSays, Result, TextFault, follows_then, subst, ℕ, ⊤, ◌<◌, ◌∙◌, ◌≡◌}
 use Rattle.cdb_form.specs.declared.text.fault.TextFault.TheVariants as text
 use Rattle.cdb_form.specs.declared.width.Width.{Ghosts as Widths}
 use Rattle.cdb_show.specs.Views.Fault.{text_fault}
@@ -25,3 +25,8 @@ step_failed {A = A} {B = B} {s = s} {c = c} {unsaid = unsaid} {said = said} f be
 pub step_text : {S L : Type 0} {s : Ghosts S} {l : Widths L} {a b : Maker S L s l} (n : ℕ) (f : TextFault) → Follows a b → s.failures b.store ≡ s.failures a.store → StepsOn {A = Unit} a b ⊥ ⊤ (Err (text_fault n f))
 step_text n text.NoMemory follows fine = record { follows = follows; failed = λ is. absurd is; memory = λ is. fine; fine = tt; base = λ is. absurd is; output = tt }
 step_text n f follows fine = record { follows = follows; failed = λ is. absurd is; memory = λ is. fine; fine = tt; base = λ is. absurd is; output = tt }
+
+-- or one more was done, or stopped
+pub step_on : {S L A : Type 0} {s : Ghosts S} {l : Widths L} {a b c : Maker S L s l} {unread still unsaid said : Type 0} (result : Result A Fault) → Follows a b → s.failures b.store ≡ s.failures a.store → (unread → still) → (unsaid → said) → StepsOn b c unread unsaid result → StepsOn a c still said result
+step_on (Ok u) before fine more says h = record { follows = follows_then _ _ _ before h.follows; failed = tt; memory = tt; fine = h.fine ∙ fine; base = tt; output = tt }
+step_on (Err f) before fine more says h = step_failed f before fine more says h

@@ -1,4 +1,5 @@
 -- What the runs that make a database leave.
+pub mod Batches
 pub mod Make
 pub mod InputsRead
 pub mod Made

@@ -1,7 +1,9 @@
 // The runs that make a database.
+mod batch;
 pub mod context;
 pub mod make;
 mod make_base;
 pub mod make_bytes;
 mod make_input;
 pub mod options;
+mod put_batches;

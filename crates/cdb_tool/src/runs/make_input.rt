@@ -1,19 +1,17 @@
 // The items of an input, one after the other: records are put, and keys removed.
-ghost use Rattle.std.specs.Prelude.{◌≡◌, ◌+◌, ◌<◌, ◌≤◌, ℕ, List, [], ◌∷◌, ◌++◌, length, Option, ◌||◌, None, Ok, OnOk, OnErr, IfErr};
+ghost use Rattle.std.specs.Prelude.{◌≡◌, ◌+◌, ◌<◌, ℕ, List, Option, ◌||◌, None, Ok, OnOk, OnErr, IfErr};
 ghost use Rattle.cdb_form.specs.Views.Feed.{FromTo};
-ghost use Rattle.cdb_form.specs.Format.{KeyValue};
 ghost use Rattle.cdb_form.specs.Text.Parse.{Change, Putting, Removing};
 ghost use Rattle.cdb_form.specs.Views.Pairs.{change_in};
-ghost use Rattle.cdb_make.specs.Views.Maker.{Follows, WhereHonest, store_of};
+ghost use Rattle.cdb_make.specs.Views.Maker.{WhereHonest, store_of};
 ghost use Rattle.cdb_show.specs.Message.{TellsEach, TellsPart};
-ghost use Rattle.cdb_show.specs.Runs.Incoming.{Incoming, from_inputs};
+ghost use Rattle.cdb_show.specs.Runs.Incoming.{Incoming};
 ghost use Rattle.cdb_show.specs.Runs.InputTask.{progress};
 ghost use Rattle.cdb_show.specs.Runs.Inputs.{IsInputOf};
 ghost use Rattle.cdb_show.specs.Runs.Lookups.{StopsBehind};
 ghost use Rattle.cdb_show.specs.Views.ItemReader.{form_of, reader_of, IsNew};
 ghost use Rattle.cdb_show.specs.Views.Output.{OutputSays};
-ghost use Rattle.cdb_show.specs.declared.fault.Fault.TheVariants.{NoMemory};
-ghost use Rattle.cdb_tool.specs.Runs.Make.{mode_of, meets_key, put_at, told, StopsSo, Task, ends, TellFails, DoesItem, InCourse, StepsOn, IsOfStore, IsOfBase, IsHalt, IsOfMaking, DoesItems, StopsItems};
+ghost use Rattle.cdb_tool.specs.Runs.Make.{mode_of, meets_key, put_at, told, StopsSo, Task, ends, TellFails, DoesItem, InCourse, StepsOn, IsOfMaking, DoesItems, StopsItems};
 ghost use Rattle.cdb_tool.specs.declared.runs.options.RunOptions.{RunOptions};
 
 use crate::runs::options::RunOptions;
@@ -27,7 +25,7 @@ use cdb_show::{
 use cdb_store::Store;
 
 /// Returns the mode of each put.
-fn put_mode(options: &MakeOptions) -> Mode
+pub(super) fn put_mode(options: &MakeOptions) -> Mode
     ensures { result ≡ mode_of options.now }
 {
     if options.stop {
@@ -67,17 +65,17 @@ pub(crate) struct Puts<'a> {
 
 /// An item of an input, as a run meets it.
 #[derive(Clone, Copy)]
-struct Met<'a> {
+pub(super) struct Met<'a> {
     /// The options of the run.
-    options: &'a RunOptions<'a>,
+    pub(super) options: &'a RunOptions<'a>,
     /// The mode of the input's puts.
-    mode: Mode,
+    pub(super) mode: Mode,
     /// The number of the input, counted from 1.
-    input: u64,
+    pub(super) input: u64,
     /// The number of the item in its input, counted from 1.
-    number: u64,
-    /// The line of its input at which it begins.
-    line: u64,
+    pub(super) number: u64,
+    /// The line of its input at which it begins, if duplicates are explained.
+    pub(super) line: u64,
 }
 
 /// Reports a put that met its key, if the options say so.
@@ -126,7 +124,7 @@ fn tell_put<E: Sink>(met: Met<'_>, key: &[u8], put: Put, errors: &mut E) -> Resu
 
 /// Puts a record of an input, and then reports it.
 #[inline(always)]
-fn put_record<L: Width, S: Store, E: Sink>(
+pub(super) fn put_record<L: Width, S: Store, E: Sink>(
     maker: &mut Maker<S, L>,
     met: Met<'_>,
     key: &[u8],
@@ -146,7 +144,10 @@ fn put_record<L: Width, S: Store, E: Sink>(
 }
 
 /// Removes the records of a key. Nothing is reported of it.
-fn remove_key<L: Width, S: Store>(maker: &mut Maker<S, L>, key: &[u8]) -> Result<(), Fault>
+pub(super) fn remove_key<L: Width, S: Store>(
+    maker: &mut Maker<S, L>,
+    key: &[u8],
+) -> Result<(), Fault>
     ensures does { (options : RunOptions) (input number : ℕ) (now : Option (List ℕ))
         → DoesItem options input number (Removing key.now)
         (progress now maker.old) (progress now maker.new) result }
@@ -195,8 +196,8 @@ fn line_of_last(style: Style, next: u64, lines: &Lines) -> u64 {
 
 impl Puts<'_> {
     /// Does what the items of an input say, whose number is counted from 1, up to the end of its
-    /// text. `context.lines` may count the lines of the reader.
-    pub(crate) fn put_input<L: Width, S: Store, F: Feeds, E: Sink, A: AtHand<F>>(
+    /// text, each before the next is read. `context.lines` may count the lines of the reader.
+    fn put_input<L: Width, S: Store, F: Feeds, E: Sink, A: AtHand<F>>(
         &self,
         maker: &mut Maker<S, L>,
         input: u64,
@@ -235,20 +236,13 @@ impl Puts<'_> {
                 number,
                 line: next,
             };
-            if let Some(peeked) = items.peek::<A>() {
-                let len = peeked.len;
-                let put = put_record(maker, met, peeked.key, peeked.value, errors);
-                items.take_peeked::<A>(len);
-                put?;
-            } else {
-                let kind = match items.read_into::<A>(&mut item) {
-                    Err(fault) => return Err(Fault::of_text(input, fault)),
-                    Ok(None) => return Ok(()),
-                    Ok(Some(kind)) => kind,
-                };
-                let line = line_of_last(self.options.make.style, next, lines);
-                do_item(maker, Met { line, ..met }, kind, &item, errors)?;
-            }
+            let kind = match items.read_into::<A>(&mut item) {
+                Err(fault) => return Err(Fault::of_text(input, fault)),
+                Ok(None) => return Ok(()),
+                Ok(Some(kind)) => kind,
+            };
+            let line = line_of_last(self.options.make.style, next, lines);
+            do_item(maker, Met { line, ..met }, kind, &item, errors)?;
         }
     }
 }
@@ -258,7 +252,7 @@ impl<S: Store, L: Width, E: Sink> InputTask<Maker<S, L>, E> for Puts<'_> {
 
     ghost work = { λ puts. put_work puts.options puts.amends };
 
-    /// The lines are counted if duplicates are explained.
+    /// The lines are counted if duplicates are explained, and then no record waits for others.
     fn do_text<F: Feeds>(
         &self,
         maker: &mut Maker<S, L>,
@@ -275,7 +269,7 @@ impl<S: Store, L: Width, E: Sink> InputTask<Maker<S, L>, E> for Puts<'_> {
             return (items.into_reader().into_window(), put);
         }
         let mut items = ItemReader::new(alloc, style, self.amends, window);
-        let put = self.put_input::<L, S, _, E, InWindow>(maker, input, &mut items, errors);
+        let put = self.put_batches::<L, S, _, E, InWindow>(maker, input, &mut items, errors);
         (items.into_reader(), put)
     }
 }

@@ -3,8 +3,8 @@ use Rattle.cdb_show.specs.Views.ItemReader.{asks_left, form_of, reader_of}
 use Rattle.cdb_tool.proofs.runs.make_input.Puts.put_input.Given as goal
 
 -- the items so far were done
-abbrev pub invariant-loop-peeked : goal.invariant-loop-peeked
-invariant-loop-peeked g l =
+abbrev pub invariant-loop-fault : goal.invariant-loop-fault
+invariant-loop-fault g l =
     record {
       last : List Change;
       gave : GaveItems g.L.Width.GREATEST g.F.Feeds.feed (g.F.Feeds.feed (reader_of l.fn.items)) l.items last;
@@ -18,5 +18,5 @@ invariant-loop-peeked g l =
       fine : g.S.Store.failures l.maker.store ≡ g.S.Store.failures l.fn.maker.store;
     }
 
-abbrev pub decreases-loop-peeked : goal.decreases-loop-peeked
-decreases-loop-peeked g l = asks_left l.items
+abbrev pub decreases-loop-fault : goal.decreases-loop-fault
+decreases-loop-fault g l = asks_left l.items

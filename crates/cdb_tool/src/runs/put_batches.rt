@@ -1,0 +1,227 @@
+// The records of an input are put by batches: added ones as they are in a file, a whole batch at
+// once, and others one by one.
+ghost use Rattle.std.specs.Prelude.{◌≡◌, ◌+◌, ◌≤◌, ◌^◌, ◌∷◌, ℕ, [], List, Option, OnOk, IfErr};
+ghost use Rattle.cdb_form.specs.Format.{KeyValue};
+ghost use Rattle.cdb_form.specs.Text.Parse.{Change, Putting, Removing};
+ghost use Rattle.cdb_form.specs.Views.Feed.{FromTo};
+ghost use Rattle.cdb_form.specs.Views.Pairs.{key_value};
+ghost use Rattle.cdb_form.specs.declared.mode.Mode.TheVariants.{Add};
+ghost use Rattle.cdb_show.specs.Runs.InputTask.{progress};
+ghost use Rattle.cdb_show.specs.Runs.Inputs.{IsInputOf};
+ghost use Rattle.cdb_show.specs.Runs.Lookups.{StopsBehind};
+ghost use Rattle.cdb_show.specs.Views.ItemReader.{form_of, reader_of, IsNew};
+ghost use Rattle.cdb_show.specs.Views.Output.{OutputSays};
+ghost use Rattle.cdb_tool.specs.Runs.Batches.{DoesMore, HoldsBatch, PutsWaiting};
+ghost use Rattle.cdb_tool.specs.Runs.Make.{mode_of, StepsOn, IsOfMaking, DoesItems, StopsItems};
+ghost use Rattle.cdb_tool.specs.declared.runs.options.RunOptions.{RunOptions};
+
+use crate::runs::batch::Batch;
+use crate::runs::make_input::{Met, Puts, put_mode, put_record, remove_key};
+use cdb_form::{AtHand, Feeds, ItemKind, Record, Sink, Width};
+use cdb_make::{Maker, Mode, first_record};
+use cdb_show::{Fault, ItemReader};
+use cdb_store::Store;
+
+/// Adds the records of a batch, all by one write.
+fn append_batch<L: Width, S: Store>(maker: &mut Maker<S, L>, batch: &Batch<L>) -> Result<(), Fault>
+    requires { (rs : List KeyValue) × HoldsBatch L.WORD L.TOP batch.now rs }
+    ensures puts { (o : RunOptions) (input : ℕ) (now : Option (List ℕ)) → mode_of o.make ≡ Add
+        → PutsWaiting o input batch.now (progress now maker.old) (progress now maker.new) result }
+    ensures own { IfErr result IsOfMaking }
+    ensures step { StepsOn maker.old maker.new ⊥ ⊥ result }
+{
+    maker.append_whole(batch.records(), batch.count)?;
+    Ok(())
+}
+
+impl Puts<'_> {
+    /// Puts the records of a batch, each alone, and reports it.
+    fn put_each<L: Width, S: Store, E: Sink>(
+        &self,
+        maker: &mut Maker<S, L>,
+        input: u64,
+        batch: &Batch<L>,
+        errors: &mut E,
+    ) -> Result<(), Fault>
+        requires holds { (rs : List KeyValue) × HoldsBatch L.WORD L.TOP batch.now rs }
+        requires few { batch.now.done + batch.now.count ≤ 2 ^ 48 }
+        ensures puts { PutsWaiting self.now.options input batch.now
+            (progress (E.contents errors.old) maker.old)
+            (progress (E.contents errors.new) maker.new) result }
+        ensures own { IfErr result IsOfMaking }
+        ensures step { StepsOn maker.old maker.new ⊥ (E.failed errors.new) result }
+    {
+        let mode = put_mode(&self.options.make);
+        let bytes = batch.records();
+        let mut place = 0;
+        for index in 0..batch.count {
+            let record = first_record::<L>(&bytes[place..]);
+            let met = Met {
+                options: &self.options,
+                mode,
+                input,
+                number: batch.done + index as u64 + 1,
+                line: 0,
+            };
+            put_record(maker, met, record.key, record.value, errors)?;
+            place += record.size;
+        }
+        Ok(())
+    }
+
+    /// Puts the records that wait.
+    fn put_waiting<L: Width, S: Store, E: Sink>(
+        &self,
+        maker: &mut Maker<S, L>,
+        input: u64,
+        batch: &mut Batch<L>,
+        errors: &mut E,
+    ) -> Result<(), Fault>
+        requires holds { (rs : List KeyValue) × HoldsBatch L.WORD L.TOP batch.old rs }
+        requires few { batch.old.done + batch.old.count ≤ 2 ^ 48 }
+        ensures puts { PutsWaiting self.now.options input batch.old
+            (progress (E.contents errors.old) maker.old)
+            (progress (E.contents errors.new) maker.new) result }
+        ensures none { HoldsBatch L.WORD L.TOP batch.new [] }
+        ensures done { batch.new.done ≡ batch.old.done + batch.old.count }
+        ensures own { IfErr result IsOfMaking }
+        ensures step { StepsOn maker.old maker.new ⊥ (E.failed errors.new) result }
+    {
+        let put = match put_mode(&self.options.make) {
+            Mode::Add => append_batch(maker, batch),
+            Mode::Warn | Mode::Insert | Mode::Replace => self.put_each(maker, input, batch, errors),
+        };
+        batch.clear();
+        put
+    }
+
+    /// Puts the records that wait, but if they are only added: of those no word is said, and they wait
+    /// for a whole batch.
+    fn put_or_wait<L: Width, S: Store, E: Sink>(
+        &self,
+        maker: &mut Maker<S, L>,
+        input: u64,
+        batch: &mut Batch<L>,
+        errors: &mut E,
+    ) -> Result<(), Fault>
+        requires holds { (rs : List KeyValue) × HoldsBatch L.WORD L.TOP batch.old rs }
+        requires few { batch.old.done + batch.old.count ≤ 2 ^ 48 }
+        ensures does { DoesMore self.now.options input [] batch.old batch.new
+            (progress (E.contents errors.old) maker.old)
+            (progress (E.contents errors.new) maker.new) result }
+        ensures own { IfErr result IsOfMaking }
+        ensures step { StepsOn maker.old maker.new ⊥ (E.failed errors.new) result }
+    {
+        match put_mode(&self.options.make) {
+            Mode::Add => Ok(()),
+            Mode::Warn | Mode::Insert | Mode::Replace => {
+                self.put_waiting(maker, input, batch, errors)
+            }
+        }
+    }
+
+    /// Lets a record wait behind the others, or puts it after them if no batch has room for it.
+    fn put_later<L: Width, S: Store, E: Sink>(
+        &self,
+        maker: &mut Maker<S, L>,
+        input: u64,
+        batch: &mut Batch<L>,
+        item: &Record,
+        errors: &mut E,
+    ) -> Result<(), Fault>
+        requires holds { (rs : List KeyValue) × HoldsBatch L.WORD L.TOP batch.old rs }
+        requires few { batch.old.done + batch.old.count ≤ 2 ^ 48 }
+        ensures does { DoesMore self.now.options input (Putting (key_value item.now) ∷ [])
+            batch.old batch.new
+            (progress (E.contents errors.old) maker.old)
+            (progress (E.contents errors.new) maker.new) result }
+        ensures own { IfErr result IsOfMaking }
+        ensures step { StepsOn maker.old maker.new ⊥ (E.failed errors.new) result }
+    {
+        if batch.add(item) {
+            return Ok(());
+        }
+        self.put_waiting(maker, input, batch, errors)?;
+        batch.grow()?;
+        if batch.add(item) {
+            return Ok(());
+        }
+        batch.done += 1;
+        let met = Met {
+            options: &self.options,
+            mode: put_mode(&self.options.make),
+            input,
+            number: batch.done,
+            line: 0,
+        };
+        put_record(maker, met, &item.key, &item.value, errors)
+    }
+
+    /// Puts the records that wait, and then removes those of a key.
+    fn remove_after<L: Width, S: Store, E: Sink>(
+        &self,
+        maker: &mut Maker<S, L>,
+        input: u64,
+        batch: &mut Batch<L>,
+        key: &[u8],
+        errors: &mut E,
+    ) -> Result<(), Fault>
+        requires holds { (rs : List KeyValue) × HoldsBatch L.WORD L.TOP batch.old rs }
+        requires few { batch.old.done + batch.old.count ≤ 2 ^ 48 }
+        ensures does { DoesMore self.now.options input (Removing key.now ∷ []) batch.old batch.new
+            (progress (E.contents errors.old) maker.old)
+            (progress (E.contents errors.new) maker.new) result }
+        ensures own { IfErr result IsOfMaking }
+        ensures step { StepsOn maker.old maker.new ⊥ (E.failed errors.new) result }
+    {
+        self.put_waiting(maker, input, batch, errors)?;
+        batch.done += 1;
+        remove_key(maker, key)
+    }
+
+    /// Does what the items of an input say, as `put_input` does, by batches.
+    pub(super) fn put_batches<L: Width, S: Store, F: Feeds, E: Sink, A: AtHand<F>>(
+        &self,
+        maker: &mut Maker<S, L>,
+        input: u64,
+        items: &mut ItemReader<F, L>,
+        errors: &mut E,
+    ) -> Result<(), Fault>
+        requires fresh { IsNew items.old }
+        ensures ok { OnOk result ((last : List Change)
+            × FromTo (F.feed (reader_of items.old)) (F.feed (reader_of items.new))
+            (IsInputOf (form_of items.old) L.GREATEST last)
+            × DoesItems self.now.options input last
+            (progress (E.contents errors.old) maker.old)
+            (progress (E.contents errors.new) maker.new)) }
+        ensures fails { IfErr result (λ fault. (last : List Change)
+            × StopsBehind (form_of items.old) L.GREATEST input last
+            (F.feed (reader_of items.old)) (F.feed (reader_of items.new)) fault
+            × StopsItems self.now.options input last
+            (progress (E.contents errors.old) maker.old)
+            (progress (E.contents errors.new) maker.new) fault) }
+        ensures output { OutputSays (E.failed errors.new) result }
+    {
+        let alloc = self.context.alloc;
+        let mut batch = Batch::<L>::new(alloc);
+        let mut item = Record {
+            key: Vec::new(alloc),
+            value: Vec::new(alloc),
+        };
+        loop {
+            batch.fill::<F, A>(items);
+            self.put_or_wait(maker, input, &mut batch, errors)?;
+            match items.read_into::<A>(&mut item) {
+                Ok(Some(ItemKind::Put)) => self.put_later(maker, input, &mut batch, &item, errors)?,
+                Ok(Some(ItemKind::Remove)) => {
+                    self.remove_after(maker, input, &mut batch, &item.key, errors)?;
+                }
+                Ok(None) => return self.put_waiting(maker, input, &mut batch, errors),
+                Err(fault) => {
+                    self.put_waiting(maker, input, &mut batch, errors)?;
+                    return Err(Fault::of_text(input, fault));
+                }
+            }
+        }
+    }
+}
