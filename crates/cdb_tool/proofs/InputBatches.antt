@@ -1,5 +1,5 @@
 -- An input whose records wait in batches, up to its end or to what stops the run.
-use Rattle.cdb_tool.proofs.Words.{BeginsWithItems, Change, Err, Fault, Feed, FromTo, GaveItems, Ghosts, IsInputOf, InputForm, List, Maker, Ok, Putting, Result, RunOptions, TextFault, [], ap, append-nil, arith, follows_same, follows_then, form_of, length, length-append, map, reader_of, refl, subst, sym, ℕ, ⊤, ◌++◌, ◌+◌, ◌<◌, ◌^◌, ◌∙◌, ◌∷◌, ◌≡◌, ◌≤◌}
+use Rattle.cdb_tool.proofs.Words.{BeginsWithItems, Change, Err, Fault, Feed, FromTo, GaveItems, Ghosts, IsInputOf, InputForm, List, Maker, Ok, Putting, Result, RunOptions, TextFault, [], append-nil, arith, follows_same, follows_then, form_of, length, length-append, map, reader_of, refl, subst, sym, ℕ, ⊤, ◌++◌, ◌+◌, ◌^◌, ◌∙◌, ◌∷◌, ◌≡◌, ◌≤◌}
 use Rattle.std.specs.Prelude.{IfErr, OnOk}
 use Rattle.std.proofs.lemmas.List.{length-map}
 use Rattle.cdb_form.specs.declared.width.Width.{Ghosts as Widths}

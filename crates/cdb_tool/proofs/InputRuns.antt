@@ -1,18 +1,16 @@
 -- A run over the items of an input, whatever bytes agree with it.
-use Rattle.cdb_tool.proofs.Words.{BeginsWithItems, Change, ComesFrom, Consumes, EndsSo, Err, Fault, Feed, FromTo, Ghosts, Incoming, InputForm, List, Maker, None, Option, Putting, Some, Task, TellsPart, TextFault, WhereHonest, [], ap, came, course_of, false, from_inputs, inl, inr, length, subst, sym, true, with_newlines, ℕ, ◌++◌, ◌+◌, ◌∙◌, ◌∷◌, ◌≡◌, ◌≢◌, ◌⊎◌}
+use Rattle.cdb_tool.proofs.Words.{Change, ComesFrom, EndsSo, Err, Fault, Feed, Ghosts, Incoming, InputForm, List, Maker, None, Option, Some, Task, TellsPart, TextFault, WhereHonest, [], ap, came, course_of, from_inputs, inl, inr, length, subst, sym, ℕ, ◌++◌, ◌+◌, ◌∙◌, ◌∷◌, ◌≡◌, ◌≢◌, ◌⊎◌}
 use Rattle.cdb_store.specs.declared.make_fault.MakeFault.TheVariants as make
 use Rattle.cdb_form.specs.declared.text.fault.TextFault.TheVariants as text
 use Rattle.cdb_form.specs.declared.width.Width.{Ghosts as Widths}
 use Rattle.cdb_show.specs.Runs.Lookups.{FaultBehind, StopsBehind}
 use Rattle.cdb_show.specs.Runs.Parsing.{IsOfRun}
 use Rattle.cdb_show.specs.Views.Fault.{text_fault}
-use Rattle.cdb_show.specs.Views.ItemReader.{Fails, GivesItem, form_of, reader_of}
+use Rattle.cdb_show.specs.Views.ItemReader.{Fails, form_of, reader_of}
 use Rattle.cdb_show.specs.declared.fault.Fault.TheVariants.{Text, Make, Duplicate, Output, NoMemory}
 use Rattle.cdb_show.specs.declared.runs.item_reader.ItemReader.{ItemReader}
-use Rattle.cdb_show.specs.declared.runs.item_reader.ItemReader.TheVariants.{Form, Map}
-use Rattle.cdb_show.proofs.ItemInputs.{GaveItems, items_begin, items_fault, items_form, items_more, items_own, items_still, items_told}
+use Rattle.cdb_show.proofs.ItemInputs.{GaveItems, items_fault, items_own, items_still, items_told}
 use Rattle.cdb_show.proofs.LookupRuns.{text_of_run}
-use Rattle.cdb_show.proofs.SpelledInputs.{from_lost}
 use Rattle.cdb_tool.specs.Runs.Make.{InCourse, IsOfMaking, ItemDone, PutStops, StoppedAt}
 use Rattle.cdb_tool.proofs.Courses.{came_more, came_none, course_stands}
 use Rattle.cdb_tool.proofs.MadeOf.{course_more, told_grow}
@@ -60,37 +58,6 @@ module _ {F L : Type 0} (g : ℕ) (feed : F → Feed) where
           }),
         );
     of_run = text_of_run n f;
-  })
-
-  -- the bytes of an item
-  item_taken : (t u : ItemReader F L) (c : Change) → GivesItem g feed t u c → (bytes : List ℕ) × Consumes (feed (reader_of t)) (feed (reader_of u)) bytes
-  item_taken (Form t true) (Form u true) c m = (m.reads.text, m.reads.read)
-  item_taken (Form t false) (Form u false) (Putting r) m = (m.reads.text, m.reads.read)
-  item_taken (Map t) (Map u) (Putting r) m = ((with_newlines m.reads.ignored ++ m.reads.line) ++ m.ending, m.reads.reads.takes.read)
-  item_taken t u c m = absurd m
-
-  -- it begins with the items before one that was taken, and with these and that one
-  items_before : (start : Feed) (t u : ItemReader F L) (last : List Change) (c : Change) → GaveItems g feed start t last → GivesItem g feed t u c → FromTo start (feed (reader_of u)) (λ text rest. BeginsWithItems (form_of t) g last text)
-  items_before start t u last c h m =
-      let taken = item_taken t u c m in
-      from_lost start (feed (reader_of t)) (feed (reader_of u)) (λ text rest. BeginsWithItems (form_of t) g last text) (λ text. BeginsWithItems (form_of t) g last text) taken.0 (items_begin g feed start t last h) taken.1 (λ text rest so. so)
-
-  items_with : (start : Feed) (t u : ItemReader F L) (last : List Change) (c : Change) → GaveItems g feed start t last → GivesItem g feed t u c → FromTo start (feed (reader_of u)) (λ text rest. BeginsWithItems (form_of t) g (last ++ c ∷ []) text)
-  items_with start t u last c h m =
-      subst (λ v. FromTo start (feed (reader_of u)) (λ text rest. BeginsWithItems v g (last ++ c ∷ []) text)) (items_form g feed t u c m) (items_begin g feed start u (last ++ c ∷ []) (items_more g feed start t u last c h m))
-
-  items_by : (start : Feed) (t u : ItemReader F L) (last : List Change) (c : Change) (f : Fault) → GaveItems g feed start t last → GivesItem g feed t u c → FromTo start (feed (reader_of u)) (λ text rest. BeginsWithItems (form_of t) g (last_by f last c) text)
-  items_by start t u last c (Make make.Lookup) h m = items_before start t u last c h m
-  items_by start t u last c (Make make.Writing) h m = items_before start t u last c h m
-  items_by start t u last c NoMemory h m = items_before start t u last c h m
-  items_by start t u last c f h m = items_with start t u last c h m
-
-  pub item_stops : (n : ℕ) (start : Feed) (t u : ItemReader F L) (form : InputForm) (last : List Change) (c : Change) (f : Fault) → form_of t ≡ form → GaveItems g feed start t last → GivesItem g feed t u c → IsOfMaking f
-      → StopsBehind form g n (last_by f last c) start (feed (reader_of u)) f
-  item_stops n start t u form last c f same h m is = subst (λ v. StopsBehind v g n (last_by f last c) start (feed (reader_of u)) f) same (record {
-    begins = items_by start t u last c f h m;
-    of_text = λ i v e. absurd (subst IsOfMaking e is);
-    of_run = in_run f is;
   })
 
 -- ---- the course up to a fault

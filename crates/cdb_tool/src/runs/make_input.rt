@@ -1,22 +1,17 @@
 // The items of an input, one after the other: records are put, and keys removed.
-ghost use Rattle.std.specs.Prelude.{◌≡◌, ◌+◌, ◌<◌, ℕ, List, Option, ◌||◌, None, Ok, OnOk, OnErr, IfErr};
-ghost use Rattle.cdb_form.specs.Views.Feed.{FromTo};
-ghost use Rattle.cdb_form.specs.Text.Parse.{Change, Putting, Removing};
-ghost use Rattle.cdb_form.specs.Views.Pairs.{change_in};
+ghost use Rattle.std.specs.Prelude.{◌≡◌, ◌<◌, ℕ, List, Option, ◌||◌, None, Ok, OnOk, OnErr, IfErr};
+ghost use Rattle.cdb_form.specs.Text.Parse.{Putting, Removing};
 ghost use Rattle.cdb_make.specs.Views.Maker.{WhereHonest, store_of};
 ghost use Rattle.cdb_show.specs.Message.{TellsEach, TellsPart};
 ghost use Rattle.cdb_show.specs.Runs.Incoming.{Incoming};
 ghost use Rattle.cdb_show.specs.Runs.InputTask.{progress};
-ghost use Rattle.cdb_show.specs.Runs.Inputs.{IsInputOf};
-ghost use Rattle.cdb_show.specs.Runs.Lookups.{StopsBehind};
-ghost use Rattle.cdb_show.specs.Views.ItemReader.{form_of, reader_of, IsNew};
 ghost use Rattle.cdb_show.specs.Views.Output.{OutputSays};
-ghost use Rattle.cdb_tool.specs.Runs.Make.{mode_of, meets_key, put_at, told, StopsSo, Task, ends, TellFails, DoesItem, InCourse, StepsOn, IsOfMaking, DoesItems, StopsItems};
+ghost use Rattle.cdb_tool.specs.Runs.Make.{mode_of, meets_key, put_at, told, StopsSo, Task, ends, TellFails, DoesItem, InCourse, StepsOn, IsOfMaking};
 ghost use Rattle.cdb_tool.specs.declared.runs.options.RunOptions.{RunOptions};
 
 use crate::runs::options::RunOptions;
 use cdb_command::{MakeOptions, Style};
-use cdb_form::{AtHand, Feeds, ItemKind, OutFault, Record, Sink, Width};
+use cdb_form::{Feeds, OutFault, Sink, Width};
 use cdb_make::{Maker, Mode, Put};
 use cdb_show::{
     Fault, InLined, InWindow, InputContext, InputTask, ItemReader, Lined, Lines, Window,
@@ -162,88 +157,12 @@ pub(super) fn remove_key<L: Width, S: Store>(
     Ok(())
 }
 
-/// Does what an item of an input says.
-#[inline(always)]
-fn do_item<L: Width, S: Store, E: Sink>(
-    maker: &mut Maker<S, L>,
-    met: Met<'_>,
-    kind: ItemKind,
-    item: &Record,
-    errors: &mut E,
-) -> Result<(), Fault>
-    requires mode { met.mode ≡ mode_of met.options.now.make }
-    ensures does { DoesItem met.entry.options.now met.entry.input met.entry.number
-        (change_in kind item.now)
-        (progress (E.contents errors.old) maker.old)
-        (progress (E.contents errors.new) maker.new) result }
-    ensures own { IfErr result IsOfMaking }
-    ensures step { StepsOn maker.old maker.new ⊥ (E.failed errors.new) result }
-{
-    match kind {
-        ItemKind::Put => put_record(maker, met, &item.key, &item.value, errors),
-        ItemKind::Remove => remove_key(maker, &item.key),
-    }
-}
-
 /// Returns the line of the item that was read last. Before it the input was at line `next`: in a
 /// map text, lines that hold no item may come between.
-fn line_of_last(style: Style, next: u64, lines: &Lines) -> u64 {
+pub(super) fn line_of_last(style: Style, next: u64, lines: &Lines) -> u64 {
     match style {
         Style::Map => lines.last(),
         Style::Native => next,
-    }
-}
-
-impl Puts<'_> {
-    /// Does what the items of an input say, whose number is counted from 1, up to the end of its
-    /// text, each before the next is read. `context.lines` may count the lines of the reader.
-    fn put_input<L: Width, S: Store, F: Feeds, E: Sink, A: AtHand<F>>(
-        &self,
-        maker: &mut Maker<S, L>,
-        input: u64,
-        items: &mut ItemReader<F, L>,
-        errors: &mut E,
-    ) -> Result<(), Fault>
-        requires fresh { IsNew items.old }
-        ensures ok { OnOk result ((last : List Change)
-            × FromTo (F.feed (reader_of items.old)) (F.feed (reader_of items.new))
-            (IsInputOf (form_of items.old) L.GREATEST last)
-            × DoesItems self.now.options input last
-            (progress (E.contents errors.old) maker.old)
-            (progress (E.contents errors.new) maker.new)) }
-        ensures fails { IfErr result (λ fault. (last : List Change)
-            × StopsBehind (form_of items.old) L.GREATEST input last
-            (F.feed (reader_of items.old)) (F.feed (reader_of items.new)) fault
-            × StopsItems self.now.options input last
-            (progress (E.contents errors.old) maker.old)
-            (progress (E.contents errors.new) maker.new) fault) }
-        ensures output { OutputSays (E.failed errors.new) result }
-    {
-        let InputContext { alloc, lines } = self.context;
-        let mut item = Record {
-            key: Vec::new(alloc),
-            value: Vec::new(alloc),
-        };
-        let mode = put_mode(&self.options.make);
-        let mut number = 0;
-        loop {
-            number += 1;
-            let next = lines.next();
-            let met = Met {
-                options: &self.options,
-                mode,
-                input,
-                number,
-                line: next,
-            };
-            let kind = match items.read_into::<A>(&mut item) {
-                Err(fault) => return Err(Fault::of_text(input, fault)),
-                Ok(None) => return Ok(()),
-                Ok(Some(kind)) => kind,
-            };
-            let line = line_of_last(self.options.make.style, next, lines);
-            do_item(maker, Met { line, ..met }, kind, &item, errors)?;
-        }
     }
 }
 
@@ -252,7 +171,7 @@ impl<S: Store, L: Width, E: Sink> InputTask<Maker<S, L>, E> for Puts<'_> {
 
     ghost work = { λ puts. put_work puts.options puts.amends };
 
-    /// The lines are counted if duplicates are explained, and then no record waits for others.
+    /// The lines are counted if duplicates are explained.
     fn do_text<F: Feeds>(
         &self,
         maker: &mut Maker<S, L>,
@@ -269,7 +188,7 @@ impl<S: Store, L: Width, E: Sink> InputTask<Maker<S, L>, E> for Puts<'_> {
             return (items.into_reader().into_window(), put);
         }
         let mut items = ItemReader::new(alloc, style, self.amends, window);
-        let put = self.put_batches::<L, S, _, E, InWindow>(maker, input, &mut items, errors);
+        let put = self.put_input::<L, S, _, E, InWindow>(maker, input, &mut items, errors);
         (items.into_reader(), put)
     }
 }

@@ -15,11 +15,11 @@ ghost use Rattle.cdb_tool.specs.Runs.Batches.{DoesMore, HoldsBatch, PutsWaiting}
 ghost use Rattle.cdb_tool.specs.Runs.Make.{mode_of, StepsOn, IsOfMaking, DoesItems, StopsItems};
 ghost use Rattle.cdb_tool.specs.declared.runs.options.RunOptions.{RunOptions};
 
-use crate::runs::batch::Batch;
-use crate::runs::make_input::{Met, Puts, put_mode, put_record, remove_key};
+use crate::runs::batch::{Batch, MOST};
+use crate::runs::make_input::{Met, Puts, line_of_last, put_mode, put_record, remove_key};
 use cdb_form::{AtHand, Feeds, ItemKind, Record, Sink, Width};
 use cdb_make::{Maker, Mode, first_record};
-use cdb_show::{Fault, ItemReader};
+use cdb_show::{Fault, InputContext, ItemReader};
 use cdb_store::Store;
 
 /// Adds the records of a batch, all by one write.
@@ -120,12 +120,14 @@ impl Puts<'_> {
         }
     }
 
-    /// Lets a record wait behind the others, or puts it after them if no batch has room for it.
+    /// Lets a record wait behind the others, or puts it after them if the batch can have no room for
+    /// it. It begins at `line` of its input.
     fn put_later<L: Width, S: Store, E: Sink>(
         &self,
         maker: &mut Maker<S, L>,
         input: u64,
         batch: &mut Batch<L>,
+        line: u64,
         item: &Record,
         errors: &mut E,
     ) -> Result<(), Fault>
@@ -152,7 +154,7 @@ impl Puts<'_> {
             mode: put_mode(&self.options.make),
             input,
             number: batch.done,
-            line: 0,
+            line,
         };
         put_record(maker, met, &item.key, &item.value, errors)
     }
@@ -179,8 +181,10 @@ impl Puts<'_> {
         remove_key(maker, key)
     }
 
-    /// Does what the items of an input say, as `put_input` does, by batches.
-    pub(super) fn put_batches<L: Width, S: Store, F: Feeds, E: Sink, A: AtHand<F>>(
+    /// Does what the items of an input say, whose number is counted from 1, up to the end of its
+    /// text. `context.lines` may count the lines of the reader. If duplicates are explained, no
+    /// record waits for others, so that the line of each is known.
+    pub(super) fn put_input<L: Width, S: Store, F: Feeds, E: Sink, A: AtHand<F>>(
         &self,
         maker: &mut Maker<S, L>,
         input: u64,
@@ -202,8 +206,13 @@ impl Puts<'_> {
             (progress (E.contents errors.new) maker.new) fault) }
         ensures output { OutputSays (E.failed errors.new) result }
     {
-        let alloc = self.context.alloc;
-        let mut batch = Batch::<L>::new(alloc);
+        let InputContext { alloc, lines } = self.context;
+        let most = if self.options.names.is_some() {
+            0
+        } else {
+            MOST
+        };
+        let mut batch = Batch::<L>::new(alloc, most);
         let mut item = Record {
             key: Vec::new(alloc),
             value: Vec::new(alloc),
@@ -211,8 +220,12 @@ impl Puts<'_> {
         loop {
             batch.fill::<F, A>(items);
             self.put_or_wait(maker, input, &mut batch, errors)?;
+            let next = lines.next();
             match items.read_into::<A>(&mut item) {
-                Ok(Some(ItemKind::Put)) => self.put_later(maker, input, &mut batch, &item, errors)?,
+                Ok(Some(ItemKind::Put)) => {
+                    let line = line_of_last(self.options.make.style, next, lines);
+                    self.put_later(maker, input, &mut batch, line, &item, errors)?;
+                }
                 Ok(Some(ItemKind::Remove)) => {
                     self.remove_after(maker, input, &mut batch, &item.key, errors)?;
                 }

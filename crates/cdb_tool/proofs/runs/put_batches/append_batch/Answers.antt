@@ -1,4 +1,4 @@
-use Rattle.cdb_tool.proofs.Words.{KeyValue, List, arith, err_from_is_err_and, length, subst, sym, ℕ, ◌+◌, ◌<◌, ◌∙◌, ◌≡◌}
+use Rattle.cdb_tool.proofs.Words.{List, arith, err_from_is_err_and, length, subst, sym, ℕ, ◌<◌, ◌∙◌}
 use Rattle.cdb_make.specs.Views.Appending.{AreFirst}
 use Rattle.cdb_make.proofs.Bytes.Fitting.{all_whole, records_read}
 use Rattle.cdb_tool.proofs.Batches.{appended, appended_stops}

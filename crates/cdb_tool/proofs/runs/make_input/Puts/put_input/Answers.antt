@@ -1,90 +1,127 @@
-use Rattle.cdb_tool.proofs.Words.{Change, FromTo, InCourse, IsInputOf, Putting, [], ap, arith, err_from_is_err_and, follows_same, follows_then, form_of, length-append, reader_of, refl, subst, sym, ℕ, ◌++◌, ◌+◌, ◌∙◌, ◌∷◌}
-use Rattle.cdb_form.specs.Views.Pairs.{change_in}
-use Rattle.cdb_show.proofs.ItemInputs.{items_all, items_fewer, items_form, items_more, items_none}
-use Rattle.cdb_tool.proofs.Courses.{came_more}
-use Rattle.cdb_tool.proofs.InputRuns.{item_stopped, item_stops, last_by, text_stopped, text_stops}
-use Rattle.cdb_tool.proofs.InputRuns.{none_put}
-use Rattle.cdb_tool.proofs.MakerSteps.{step_failed, step_text}
+use Rattle.cdb_tool.proofs.Words.{err_from_is_err_and, refl}
+use Rattle.cdb_tool.proofs.InputBatches.{comes_few, comes_filled, comes_more, comes_none, comes_waited, end_done, end_stops, fault_stops, fault_unput, more_stops, waited_stops}
 use Rattle.cdb_tool.proofs.runs.make_input.Puts.put_input.Goals as goal
 
-pub loop-fault-init : goal.loop-fault-init
-loop-fault-init g c = record {
-  last = [];
-  gave = items_none g.L.Width.GREATEST g.F.Feeds.feed c.args.items.now c.requires.fresh;
-  form = refl;
-  number = refl;
-  asks = omega (arith, c.requires.fresh.asks);
-  course = λ t read start o n h. none_put {s = g.S.Store} {l = g.L.Width} t read start _ _ h;
-  follows = follows_same {s = g.S.Store} {l = g.L.Width} c.args.maker.now;
-  fine = refl;
-}
+pub loop-item-init : goal.loop-item-init
+loop-item-init g c = record { comes = comes_none {s = g.S.Store} {l = g.L.Width} _ _ _ _ _ _ _ c.args.items.now c.new-batch.result refl refl c.requires.fresh c.new-batch.ensures.done c.new-batch.ensures.none }
 
-pub returns-in-Err-clause-fails : goal.returns-in-Err-clause-fails
-returns-in-Err-clause-fails g c =
-    let inv = c.loop-fault.invariant in
-    rw c.of_text.ensures (
-      inv.last,
-      text_stops g.L.Width.GREATEST g.F.Feeds.feed c.args.input _ c.loop-fault.items c.read_into.new.self (form_of c.args.items.now) inv.last c.in-Err.fault (λ it. g.met.F.Feeds.one_rest it) inv.form inv.gave c.in-Err.ensures.fails,
-      record {
-        stops = λ t read start o n h. text_stopped {s = g.S.Store} {l = g.L.Width} t _ start _ c.loop-fault.maker c.args.input c.in-Err.fault (inv.course t read start o n h);
-        step = step_text c.args.input c.in-Err.fault inv.follows inv.fine;
-      },
-    )
+pub put_or_wait-requires-clause-holds : goal.put_or_wait-requires-clause-holds
+put_or_wait-requires-clause-holds g c =
+    let filled = comes_filled {s = g.S.Store} {l = g.L.Width} _ _ _ _ _ _ _ _ _ _ _ _ c.loop-item.invariant.comes c.fill.ensures.takes c.fill.ensures.done in
+    (filled.amid.waiting, filled.amid.holds)
+
+pub put_or_wait-requires-clause-few : goal.put_or_wait-requires-clause-few
+put_or_wait-requires-clause-few g c =
+    let filled = comes_filled {s = g.S.Store} {l = g.L.Width} _ _ _ _ _ _ _ _ _ _ _ _ c.loop-item.invariant.comes c.fill.ensures.takes c.fill.ensures.done in
+    comes_few {s = g.S.Store} {l = g.L.Width} _ _ _ _ _ _ _ _ _ _ filled
+
+pub returns-in_err-put_or_wait-clause-fails : goal.returns-in_err-put_or_wait-clause-fails
+returns-in_err-put_or_wait-clause-fails g c =
+    let p = err_from_is_err_and c.from_residual.result c.from_residual.ensures.1 in
+    let filled = comes_filled {s = g.S.Store} {l = g.L.Width} _ _ _ _ _ _ _ _ _ _ _ _ c.loop-item.invariant.comes c.fill.ensures.takes c.fill.ensures.done in
+    rw (p.1, p.2) (waited_stops {s = g.S.Store} {l = g.L.Width} _ _ _ _ _ _ _ _ _ c.put_or_wait.new.batch _ _ c.in_err-put_or_wait.field-0.0 filled c.in_err-put_or_wait.ensures.does c.in_err-put_or_wait.ensures.own c.in_err-put_or_wait.ensures.step)
+
+pub put_later-requires-clause-holds : goal.put_later-requires-clause-holds
+put_later-requires-clause-holds g c =
+    let filled = comes_filled {s = g.S.Store} {l = g.L.Width} _ _ _ _ _ _ _ _ _ _ _ _ c.loop-item.invariant.comes c.fill.ensures.takes c.fill.ensures.done in
+    let waited = comes_waited {s = g.S.Store} {l = g.L.Width} _ _ _ _ _ _ _ _ _ _ _ _ filled c.in_ok-put_or_wait.ensures.does c.in_ok-put_or_wait.ensures.step in
+    (waited.amid.waiting, waited.amid.holds)
+
+pub put_later-requires-clause-few : goal.put_later-requires-clause-few
+put_later-requires-clause-few g c =
+    let filled = comes_filled {s = g.S.Store} {l = g.L.Width} _ _ _ _ _ _ _ _ _ _ _ _ c.loop-item.invariant.comes c.fill.ensures.takes c.fill.ensures.done in
+    let waited = comes_waited {s = g.S.Store} {l = g.L.Width} _ _ _ _ _ _ _ _ _ _ _ _ filled c.in_ok-put_or_wait.ensures.does c.in_ok-put_or_wait.ensures.step in
+    comes_few {s = g.S.Store} {l = g.L.Width} _ _ _ _ _ _ _ _ _ _ waited
+
+pub loop-item-preserved-in-Continue-branch-2 : goal.loop-item-preserved-in-Continue-branch-2
+loop-item-preserved-in-Continue-branch-2 g c =
+    let filled = comes_filled {s = g.S.Store} {l = g.L.Width} _ _ _ _ _ _ _ _ _ _ _ _ c.loop-item.invariant.comes c.fill.ensures.takes c.fill.ensures.done in
+    let waited = comes_waited {s = g.S.Store} {l = g.L.Width} _ _ _ _ _ _ _ _ _ _ _ _ filled c.in_ok-put_or_wait.ensures.does c.in_ok-put_or_wait.ensures.step in
+    let one = rw (c.in-Ok-Some-Put.field-0-is, c.in-Ok-Some-Put.field-0-0-is) at c.in-Ok-Some-Put.ensures.gives in
+    record { comes = comes_more {s = g.S.Store} {l = g.L.Width} _ _ _ _ _ _ _ _ _ _ _ _ _ _ waited one c.in_ok-put_later-in-Ok-Some-Put.ensures.does c.in_ok-put_later-in-Ok-Some-Put.ensures.step }
+
+pub returns-in_err-put_later-in-Ok-Some-Put-clause-fails : goal.returns-in_err-put_later-in-Ok-Some-Put-clause-fails
+returns-in_err-put_later-in-Ok-Some-Put-clause-fails g c =
+    let p = err_from_is_err_and c.from_residual-in_err-put_later-in-Ok-Some-Put.result c.from_residual-in_err-put_later-in-Ok-Some-Put.ensures.1 in
+    let filled = comes_filled {s = g.S.Store} {l = g.L.Width} _ _ _ _ _ _ _ _ _ _ _ _ c.loop-item.invariant.comes c.fill.ensures.takes c.fill.ensures.done in
+    let waited = comes_waited {s = g.S.Store} {l = g.L.Width} _ _ _ _ _ _ _ _ _ _ _ _ filled c.in_ok-put_or_wait.ensures.does c.in_ok-put_or_wait.ensures.step in
+    let one = rw (c.in-Ok-Some-Put.field-0-is, c.in-Ok-Some-Put.field-0-0-is) at c.in-Ok-Some-Put.ensures.gives in
+    rw (p.1, p.2) (more_stops {s = g.S.Store} {l = g.L.Width} _ _ _ _ _ _ _ _ _ _ _ c.put_later.new.batch _ _ c.in_err-put_later-in-Ok-Some-Put.field-0.0 waited one c.in_err-put_later-in-Ok-Some-Put.ensures.does c.in_err-put_later-in-Ok-Some-Put.ensures.own c.in_err-put_later-in-Ok-Some-Put.ensures.step)
+
+pub remove_after-requires-clause-holds : goal.remove_after-requires-clause-holds
+remove_after-requires-clause-holds g c =
+    let filled = comes_filled {s = g.S.Store} {l = g.L.Width} _ _ _ _ _ _ _ _ _ _ _ _ c.loop-item.invariant.comes c.fill.ensures.takes c.fill.ensures.done in
+    let waited = comes_waited {s = g.S.Store} {l = g.L.Width} _ _ _ _ _ _ _ _ _ _ _ _ filled c.in_ok-put_or_wait.ensures.does c.in_ok-put_or_wait.ensures.step in
+    (waited.amid.waiting, waited.amid.holds)
+
+pub remove_after-requires-clause-few : goal.remove_after-requires-clause-few
+remove_after-requires-clause-few g c =
+    let filled = comes_filled {s = g.S.Store} {l = g.L.Width} _ _ _ _ _ _ _ _ _ _ _ _ c.loop-item.invariant.comes c.fill.ensures.takes c.fill.ensures.done in
+    let waited = comes_waited {s = g.S.Store} {l = g.L.Width} _ _ _ _ _ _ _ _ _ _ _ _ filled c.in_ok-put_or_wait.ensures.does c.in_ok-put_or_wait.ensures.step in
+    comes_few {s = g.S.Store} {l = g.L.Width} _ _ _ _ _ _ _ _ _ _ waited
+
+pub loop-item-preserved : goal.loop-item-preserved
+loop-item-preserved g c =
+    let filled = comes_filled {s = g.S.Store} {l = g.L.Width} _ _ _ _ _ _ _ _ _ _ _ _ c.loop-item.invariant.comes c.fill.ensures.takes c.fill.ensures.done in
+    let waited = comes_waited {s = g.S.Store} {l = g.L.Width} _ _ _ _ _ _ _ _ _ _ _ _ filled c.in_ok-put_or_wait.ensures.does c.in_ok-put_or_wait.ensures.step in
+    let one = rw (c.in-Ok-Some-Remove.field-0-is, c.in-Ok-Some-Remove.field-0-0-is) at c.in-Ok-Some-Remove.ensures.gives in
+    record { comes = comes_more {s = g.S.Store} {l = g.L.Width} _ _ _ _ _ _ _ _ _ _ _ _ _ _ waited one (rw c.deref.ensures.value at c.in_ok-remove_after-in-Ok-Some-Remove.ensures.does) c.in_ok-remove_after-in-Ok-Some-Remove.ensures.step }
+
+pub returns-in_err-remove_after-in-Ok-Some-Remove-clause-fails : goal.returns-in_err-remove_after-in-Ok-Some-Remove-clause-fails
+returns-in_err-remove_after-in-Ok-Some-Remove-clause-fails g c =
+    let p = err_from_is_err_and c.from_residual-in_err-remove_after-in-Ok-Some-Remove.result c.from_residual-in_err-remove_after-in-Ok-Some-Remove.ensures.1 in
+    let filled = comes_filled {s = g.S.Store} {l = g.L.Width} _ _ _ _ _ _ _ _ _ _ _ _ c.loop-item.invariant.comes c.fill.ensures.takes c.fill.ensures.done in
+    let waited = comes_waited {s = g.S.Store} {l = g.L.Width} _ _ _ _ _ _ _ _ _ _ _ _ filled c.in_ok-put_or_wait.ensures.does c.in_ok-put_or_wait.ensures.step in
+    let one = rw (c.in-Ok-Some-Remove.field-0-is, c.in-Ok-Some-Remove.field-0-0-is) at c.in-Ok-Some-Remove.ensures.gives in
+    rw (p.1, p.2) (more_stops {s = g.S.Store} {l = g.L.Width} _ _ _ _ _ _ _ _ _ _ _ c.remove_after.new.batch _ _ c.in_err-remove_after-in-Ok-Some-Remove.field-0.0 waited one (rw c.deref.ensures.value at c.in_err-remove_after-in-Ok-Some-Remove.ensures.does) c.in_err-remove_after-in-Ok-Some-Remove.ensures.own c.in_err-remove_after-in-Ok-Some-Remove.ensures.step)
+
+pub put_waiting-requires-clause-holds : goal.put_waiting-requires-clause-holds
+put_waiting-requires-clause-holds g c =
+    let filled = comes_filled {s = g.S.Store} {l = g.L.Width} _ _ _ _ _ _ _ _ _ _ _ _ c.loop-item.invariant.comes c.fill.ensures.takes c.fill.ensures.done in
+    let waited = comes_waited {s = g.S.Store} {l = g.L.Width} _ _ _ _ _ _ _ _ _ _ _ _ filled c.in_ok-put_or_wait.ensures.does c.in_ok-put_or_wait.ensures.step in
+    (waited.amid.waiting, waited.amid.holds)
+
+pub put_waiting-requires-clause-few : goal.put_waiting-requires-clause-few
+put_waiting-requires-clause-few g c =
+    let filled = comes_filled {s = g.S.Store} {l = g.L.Width} _ _ _ _ _ _ _ _ _ _ _ _ c.loop-item.invariant.comes c.fill.ensures.takes c.fill.ensures.done in
+    let waited = comes_waited {s = g.S.Store} {l = g.L.Width} _ _ _ _ _ _ _ _ _ _ _ _ filled c.in_ok-put_or_wait.ensures.does c.in_ok-put_or_wait.ensures.step in
+    comes_few {s = g.S.Store} {l = g.L.Width} _ _ _ _ _ _ _ _ _ _ waited
 
 pub returns-in-Ok-None-clause-ok : goal.returns-in-Ok-None-clause-ok
 returns-in-Ok-None-clause-ok g c =
-    let inv = c.loop-fault.invariant in
+    let filled = comes_filled {s = g.S.Store} {l = g.L.Width} _ _ _ _ _ _ _ _ _ _ _ _ c.loop-item.invariant.comes c.fill.ensures.takes c.fill.ensures.done in
+    let waited = comes_waited {s = g.S.Store} {l = g.L.Width} _ _ _ _ _ _ _ _ _ _ _ _ filled c.in_ok-put_or_wait.ensures.does c.in_ok-put_or_wait.ensures.step in
     let end = rw c.in-Ok-None.field-0-is at c.in-Ok-None.ensures.gives in
-    let greatest = g.L.Width.GREATEST in
-    let feed = g.F.Feeds.feed in
-    let input = feed (reader_of c.args.items.now) in
-    let new = c.read_into.new.self in
-    let all = items_all greatest feed input c.loop-fault.items new inv.last inv.gave end in
-    (inv.last, subst (λ v. FromTo input (feed (reader_of new)) (IsInputOf v greatest inv.last)) inv.form all, record { puts = inv.course; step = record { follows = inv.follows; failed = tt; memory = tt; fine = inv.fine; base = tt; output = tt } })
+    end_done {s = g.S.Store} {l = g.L.Width} _ _ _ _ _ _ _ _ _ _ _ _ c.put_waiting.result waited end c.put_waiting.ensures.puts c.put_waiting.ensures.step
 
-pub loop-fault-preserved : goal.loop-fault-preserved
-loop-fault-preserved g c =
-    let inv = c.loop-fault.invariant in
-    let item : Change = change_in c.in-Ok-Some.kind c.read_into.new.into in
-    let one = rw c.in-Ok-Some.field-0-is at c.in-Ok-Some.ensures.gives in
-    let greatest = g.L.Width.GREATEST in
-    let feed = g.F.Feeds.feed in
-    let old = c.loop-fault.items in
-    let new = c.read_into.new.self in
-    record {
-      last = inv.last ++ item ∷ [];
-      gave = items_more greatest feed _ old new inv.last item inv.gave one;
-      form = items_form greatest feed old new item one ∙ inv.form;
-      number = sym (length-append inv.last (item ∷ []) ∙ ap (λ (n : ℕ). n + 1) (sym inv.number));
-      asks = omega (arith, inv.asks, items_fewer greatest feed old new item one);
-      course = λ t read start o n h.
-          subst (λ cs. InCourse {s = g.S.Store} {l = g.L.Width} t cs start (g.E.Sink.contents c.do_item.new.errors) c.do_item.new.maker)
-          (sym (came_more c.args.input (c.loop-fault.number + 1) read inv.last item n (ap (λ (n : ℕ). n + 1) inv.number)))
-          (c.in_ok-do_item.ensures.does t _ start o (inv.course t read start o n h)).ok;
-      follows = follows_then _ _ _ inv.follows c.do_item.ensures.step.follows;
-      fine = c.in_ok-do_item.ensures.step.fine ∙ inv.fine;
-    }
+pub returns-in-Ok-None-clause-fails : goal.returns-in-Ok-None-clause-fails
+returns-in-Ok-None-clause-fails g c =
+    let filled = comes_filled {s = g.S.Store} {l = g.L.Width} _ _ _ _ _ _ _ _ _ _ _ _ c.loop-item.invariant.comes c.fill.ensures.takes c.fill.ensures.done in
+    let waited = comes_waited {s = g.S.Store} {l = g.L.Width} _ _ _ _ _ _ _ _ _ _ _ _ filled c.in_ok-put_or_wait.ensures.does c.in_ok-put_or_wait.ensures.step in
+    let end = rw c.in-Ok-None.field-0-is at c.in-Ok-None.ensures.gives in
+    end_stops {s = g.S.Store} {l = g.L.Width} _ _ _ _ _ _ _ _ _ _ _ _ c.put_waiting.result waited end c.put_waiting.ensures.puts c.put_waiting.ensures.own c.put_waiting.ensures.step
 
-pub returns-in_err-do_item-clause-fails : goal.returns-in_err-do_item-clause-fails
-returns-in_err-do_item-clause-fails g c =
-    let p = err_from_is_err_and c.from_residual.result c.from_residual.ensures.1 in
-    let inv = c.loop-fault.invariant in
-    let item : Change = change_in c.in-Ok-Some.kind c.read_into.new.into in
-    let one = rw c.in-Ok-Some.field-0-is at c.in-Ok-Some.ensures.gives in
-    let fault = c.in_err-do_item.field-0.0 in
-    rw (p.1, p.2) (
-      last_by fault inv.last item,
-      item_stops g.L.Width.GREATEST g.F.Feeds.feed c.args.input _ c.loop-fault.items c.read_into.new.self (form_of c.args.items.now) inv.last item fault inv.form inv.gave one c.in_err-do_item.ensures.own,
-      record {
-        stops = λ t read start o n h.
-            let course = inv.course t read start o n h in
-            item_stopped {s = g.S.Store} {l = g.L.Width} t read inv.last (record { input = c.args.input; number = c.loop-fault.number + 1; it = item }) start _ _ c.loop-fault.maker c.do_item.new.maker n (ap (λ (n : ℕ). n + 1) inv.number) c.do_item.ensures.step.follows.comes fault course
-            (c.in_err-do_item.ensures.does t _ start o course);
-        step = step_failed fault inv.follows inv.fine (λ is. is) (λ is. tt) c.in_err-do_item.ensures.step;
-      },
-    )
+pub put_waiting-requires-in-Err-clause-holds : goal.put_waiting-requires-in-Err-clause-holds
+put_waiting-requires-in-Err-clause-holds g c =
+    let filled = comes_filled {s = g.S.Store} {l = g.L.Width} _ _ _ _ _ _ _ _ _ _ _ _ c.loop-item.invariant.comes c.fill.ensures.takes c.fill.ensures.done in
+    let waited = comes_waited {s = g.S.Store} {l = g.L.Width} _ _ _ _ _ _ _ _ _ _ _ _ filled c.in_ok-put_or_wait.ensures.does c.in_ok-put_or_wait.ensures.step in
+    (waited.amid.waiting, waited.amid.holds)
 
-pub returns-in_err-do_item-clause-output : goal.returns-in_err-do_item-clause-output
-returns-in_err-do_item-clause-output g c =
-    let p = err_from_is_err_and c.from_residual.result c.from_residual.ensures.1 in
-    rw (p.1, p.2) c.in_err-do_item.ensures.step.output
+pub put_waiting-requires-in-Err-clause-few : goal.put_waiting-requires-in-Err-clause-few
+put_waiting-requires-in-Err-clause-few g c =
+    let filled = comes_filled {s = g.S.Store} {l = g.L.Width} _ _ _ _ _ _ _ _ _ _ _ _ c.loop-item.invariant.comes c.fill.ensures.takes c.fill.ensures.done in
+    let waited = comes_waited {s = g.S.Store} {l = g.L.Width} _ _ _ _ _ _ _ _ _ _ _ _ filled c.in_ok-put_or_wait.ensures.does c.in_ok-put_or_wait.ensures.step in
+    comes_few {s = g.S.Store} {l = g.L.Width} _ _ _ _ _ _ _ _ _ _ waited
+
+pub returns-in_err-put_waiting-in-Err-clause-fails : goal.returns-in_err-put_waiting-in-Err-clause-fails
+returns-in_err-put_waiting-in-Err-clause-fails g c =
+    let p = err_from_is_err_and c.from_residual-in_err-put_waiting-in-Err.result c.from_residual-in_err-put_waiting-in-Err.ensures.1 in
+    let filled = comes_filled {s = g.S.Store} {l = g.L.Width} _ _ _ _ _ _ _ _ _ _ _ _ c.loop-item.invariant.comes c.fill.ensures.takes c.fill.ensures.done in
+    let waited = comes_waited {s = g.S.Store} {l = g.L.Width} _ _ _ _ _ _ _ _ _ _ _ _ filled c.in_ok-put_or_wait.ensures.does c.in_ok-put_or_wait.ensures.step in
+    rw (p.1, p.2) (fault_unput {s = g.S.Store} {l = g.L.Width} _ _ _ _ _ _ _ _ _ _ _ _ c.in-Err.fault c.in_err-put_waiting-in-Err.field-0.0 waited c.in-Err.ensures.fails c.in_err-put_waiting-in-Err.ensures.puts c.in_err-put_waiting-in-Err.ensures.own c.in_err-put_waiting-in-Err.ensures.step)
+
+pub returns-in-Err-clause-fails : goal.returns-in-Err-clause-fails
+returns-in-Err-clause-fails g c =
+    let filled = comes_filled {s = g.S.Store} {l = g.L.Width} _ _ _ _ _ _ _ _ _ _ _ _ c.loop-item.invariant.comes c.fill.ensures.takes c.fill.ensures.done in
+    let waited = comes_waited {s = g.S.Store} {l = g.L.Width} _ _ _ _ _ _ _ _ _ _ _ _ filled c.in_ok-put_or_wait.ensures.does c.in_ok-put_or_wait.ensures.step in
+    rw c.of_text.ensures (fault_stops {s = g.S.Store} {l = g.L.Width} _ _ _ _ _ _ _ _ _ _ _ _ c.in-Err.fault (λ it. g.met.F.Feeds.one_rest it) waited c.in-Err.ensures.fails c.in_ok-put_waiting-in-Err.ensures.puts c.in_ok-put_waiting-in-Err.ensures.step)

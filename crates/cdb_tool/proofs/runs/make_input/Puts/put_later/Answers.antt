@@ -1,4 +1,4 @@
-use Rattle.cdb_tool.proofs.Words.{Change, List, Putting, [], arith, err_from_is_err_and, length, progress, refl, subst, sym, ◌+◌, ◌∙◌, ◌∷◌, ◌≡◌}
+use Rattle.cdb_tool.proofs.Words.{Putting, [], arith, err_from_is_err_and, progress, refl, subst, sym, ◌+◌, ◌∙◌, ◌∷◌, ◌≡◌}
 use Rattle.cdb_form.specs.Views.Pairs.{key_value}
 use Rattle.cdb_tool.specs.Runs.Batches.{HoldsBatch, IsAmid}
 use Rattle.cdb_tool.proofs.Batches.{amid_all, amid_count, amid_more, amid_refused, item_does, stops_more}

@@ -1,4 +1,4 @@
-use Rattle.cdb_tool.proofs.Words.{Removing, [], arith, err_from_is_err_and, length, progress, refl, ◌+◌, ◌∷◌}
+use Rattle.cdb_tool.proofs.Words.{Removing, [], arith, err_from_is_err_and, progress, refl, ◌+◌, ◌∷◌}
 use Rattle.cdb_tool.proofs.Batches.{amid_count, item_does, stops_more}
 use Rattle.cdb_tool.proofs.MakerSteps.{step_on}
 use Rattle.cdb_tool.proofs.runs.make_input.Puts.remove_after.Goals as goal
