@@ -7,7 +7,8 @@ near the border of two of them.
 A first batch has 4096 bytes, and a later one 128 KiB. A native text that is cut is refused, at its end, after the lines
 of all whole records; a cut map text makes the database of what is left. If the file has no room for what waits, that is
 the error, and not the end of the text. An input may come a byte at a time. The lines of the duplicates that came are
-written before the create waits for more, but for those that its 4096 bytes of lines have room for.
+written before the create waits for more, but for those that its 4096 bytes of lines have room for. With -v each
+duplicate is told with the line at which it begins.
 """
 
 import array
@@ -216,13 +217,50 @@ def told_rows(program, folder):
         yield f"-cme tells after {before}", told(program, ["-cme", "x"], text, folder), DUPLICATE % (before + 2) + STOPPED
 
 
+def explained(text, lines, keys):
+    """What a create with -v says of a text whose keys come at these lines, if it tells those that came before."""
+    seen, said = set(), b""
+    for number, (line, key) in enumerate(zip(lines, keys), 1):
+        if key in seen:
+            said += DUPLICATE % number + b"cdb: in: line %d: key %s\n" % (line, key)
+        seen.add(key)
+    return said
+
+
+def line_rows(program, folder):
+    """Creates that explain duplicates by the lines at which they begin: of native records with newlines, and of map
+    lines with others between them. The keys come again far behind, and in another batch."""
+    keys = [b"key_%05d" % (it % 1500) for it in range(4000)]
+    values = [b"v\n" * (it % 4) + b"%d" % it for it in range(4000)]
+    text, lines, line = b"", [], 1
+    for key, value in zip(keys, values):
+        lines.append(line)
+        text += text_of([(key, value)])[:-1]
+        line += 1 + value.count(b"\n")
+    mapped, places, line = b"", [], 1
+    for number, key in enumerate(keys):
+        between = (b"", b"# a note\n", b"\n \t\n")[number % 30 % 3 if number % 30 < 3 else 0]
+        mapped += between + b"%s %d and so on\n" % (key, number)
+        line += between.count(b"\n")
+        places.append(line)
+        line += 1
+    for letters, what, at in (("", text + b"\n", lines), ("m", mapped, places)):
+        with open(os.path.join(folder, "in"), "wb") as file:
+            file.write(what)
+        said = explained(what, at, keys)
+        first = b"".join(said.splitlines(True)[:2]) + STOPPED
+        for letter, wanted in (("w", (0, said)), ("u", (0, b"")), ("uw", (0, said)), ("e", (111, first)), ("", (0, b""))):
+            name = f"-cv{letters}{letter} x in"
+            yield name, run(program, [f"-cv{letters}{letter}", "x", "in"], b"", folder)[:2], wanted
+
+
 def main():
     if len(sys.argv) != 2:
         sys.exit(__doc__)
     program = os.path.abspath(sys.argv[1])
     passed = failed = 0
     with tempfile.TemporaryDirectory() as folder:
-        for rows in (cut_rows, map_rows, removal_rows, input_rows, full_rows, length_rows, slow_rows, told_rows):
+        for rows in (cut_rows, map_rows, removal_rows, input_rows, full_rows, length_rows, line_rows, slow_rows, told_rows):
             for name, left, wanted in rows(program, folder):
                 passed, failed = passed + (left == wanted), failed + (left != wanted)
                 if left != wanted:

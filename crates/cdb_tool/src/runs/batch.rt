@@ -14,7 +14,7 @@ const FIRST: usize = 4096;
 
 /// The number of bytes that a batch has at most. They are more than a store's buffer has, so they
 /// are written without a copy.
-pub(crate) const MOST: usize = 128 * 1024;
+const MOST: usize = 128 * 1024;
 
 /// Records that wait, and how many items were done before them.
 #[derive(Drop)]
@@ -26,8 +26,6 @@ pub(crate) struct Batch<L> {
     pub(crate) count: usize,
     /// The number of items of the input that were done.
     pub(crate) done: u64,
-    /// The number of bytes that it may have for records.
-    most: usize,
     width: PhantomData<L>,
     ghost within: { held ≤ vec_len bytes },
     ghost few: { count ≤ held },
@@ -36,8 +34,8 @@ pub(crate) struct Batch<L> {
 impl<L: Width> Batch<L> {
     ghost use Rattle.cdb_tool.specs.Runs.Batches.{HoldsBatch, TakesMore};
 
-    /// A batch of at most `most` bytes: no record waits, and no item was done.
-    pub(crate) fn new(alloc: Global, most: usize) -> Batch<L>
+    /// No record waits, and no item was done.
+    pub(crate) fn new(alloc: Global) -> Batch<L>
         ensures none { HoldsBatch L.WORD L.TOP result [] }
         ensures done { result.done ≡ 0 }
     {
@@ -46,7 +44,6 @@ impl<L: Width> Batch<L> {
             held: 0,
             count: 0,
             done: 0,
-            most,
             width: PhantomData,
         }
     }
@@ -105,7 +102,6 @@ impl<L: Width> Batch<L> {
         ensures done { self.new.done ≡ self.old.done }
     {
         let size = if self.bytes.is_empty() { FIRST } else { MOST };
-        let size = size.min(self.most);
         if self.bytes.len() < size {
             self.bytes.resize(size, 0)?;
         }
