@@ -6,6 +6,7 @@ pub mod Stops
 pub mod TextLaws
 pub mod RecordLemmas
 pub mod FormReads
+pub mod LongValues
 pub mod KeyTexts
 pub mod PrefixLemmas
 pub mod ShortLengths

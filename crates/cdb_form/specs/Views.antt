@@ -7,6 +7,7 @@ pub mod Source
 pub mod NativeParser
 pub mod MapParser
 pub mod FormReader
+pub mod LongValue
 pub mod TextReader
 pub mod AmendReader
 pub mod MapReader

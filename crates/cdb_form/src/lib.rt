@@ -50,6 +50,7 @@ pub use text::fill::{Filled, fill, fill_one};
 pub use text::form_reader::FormReader;
 pub use text::list_reader::ListReader;
 pub use text::list_writer::{write_list_record, write_map_key};
+pub use text::long_value::Next;
 pub use text::map_reader::MapReader;
 pub use text::map_writer::write_map_record;
 pub use text::native_reader::TextReader;

@@ -11,6 +11,7 @@ mod lanes;
 pub(crate) mod line;
 pub(crate) mod list_reader;
 pub(crate) mod list_writer;
+pub(crate) mod long_value;
 mod map_parser;
 pub(crate) mod map_reader;
 pub(crate) mod map_writer;

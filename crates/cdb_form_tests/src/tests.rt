@@ -4,6 +4,7 @@ mod fakes;
 mod feeding;
 mod lists;
 mod maps;
+mod pieces;
 mod reading;
 mod refusals;
 mod texts;

@@ -350,10 +350,6 @@ lift_key F g k n from at to old mid new v f l are counted later read h =
     fails_behind (λ t f. StopsAt (Rest4 F n) g at t f) (λ t f. StopsAt (Rest2 F k n) g from t f) old mid new from at to (v ++ 45 ∷ []) f read (omega (arith, counted, l, length-append v (45 ∷ []))) later
     (λ t s. behind_key F g k n from at _ t v (told to f) l are counted refl s) h
 
-pub lift_angle : (F : ℕ → List ℕ → Type 0) (g n from at to : ℕ) (old mid new : Feed) (f : TextFault) → at ≡ from + 1 → at ≤ to → Consumes old mid (62 ∷ []) → FromTo mid new (λ t rest. StopsAt (Rest5 F n) g at (seen at to f t) (told to f)) → FromTo old new (λ t rest. StopsAt (Rest4 F n) g from (seen from to f t) (told to f))
-lift_angle F g n from at to old mid new f counted later read h =
-    fails_behind (λ t f. StopsAt (Rest5 F n) g at t f) (λ t f. StopsAt (Rest4 F n) g from t f) old mid new from at to (62 ∷ []) f read counted later (λ t s. behind_angle F g n from at _ t (told to f) counted refl s) h
-
 pub lift_length : (F : ℕ → List ℕ → Type 0) (g k from at to : ℕ) (old mid new : Feed) (ds : List ℕ) (f : TextFault) → IsNumeral ds k → k ≤ g → at ≡ from + (length ds + 1) → at ≤ to → Consumes old mid (ds ++ 58 ∷ []) → FromTo mid new (λ t rest. StopsAt (Rest5 F k) g at (seen at to f t) (told to f)) → FromTo old new (λ t rest. StopsAt (BehindMinus F) g from (seen from to f t) (told to f))
 lift_length F g k from at to old mid new ds f i l counted later read h =
     fails_behind (λ t f. StopsAt (Rest5 F k) g at t f) (λ t f. StopsAt (BehindMinus F) g from t f) old mid new from at to (ds ++ 58 ∷ []) f read (omega (arith, counted, length-append ds (58 ∷ []))) later

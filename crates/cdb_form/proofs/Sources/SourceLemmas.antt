@@ -1,5 +1,5 @@
 -- What a source read, piece after piece.
-use Rattle.cdb_form.proofs.Words.{AllDigits, AreBytes, Consumes, Feed, FromTo, IsAtEnd, IsNumeral, IsOfText, IsRecord, KeyValue, Leaves, List, ReadsBehind, Source, Spells, SpellsRemoval, TextFault, [], ap, append_assoc, arith, budget, codes, digit_value, digits_push, digits_value, digits_value_push, length, length-append, refl, subst, sym, take, take_at, ℕ, ◌*◌, ◌++◌, ◌+◌, ◌-◌, ◌<◌, ◌∙◌, ◌∷◌, ◌≡◌, ◌≢◌, ◌≤◌}
+use Rattle.cdb_form.proofs.Words.{AllDigits, AreBytes, Consumes, Feed, FromTo, IsAtEnd, IsNumeral, IsOfText, Leaves, List, ReadsBehind, Source, Spells, SpellsRemoval, TextFault, [], ap, append_assoc, arith, budget, codes, digit_value, digits_push, digits_value, digits_value_push, length, length-append, refl, subst, sym, take, take_at, ℕ, ◌*◌, ◌++◌, ◌+◌, ◌-◌, ◌<◌, ◌∙◌, ◌∷◌, ◌≡◌, ◌≢◌, ◌≤◌}
 use Rattle.cdb_form.proofs.Bytes.ByteLemmas.{AreBytes-front}
 use Rattle.cdb_form.specs.declared.text.fault.TextFault.TheVariants.{Syntax, Ended, Large, Input, Endless, NoMemory}
 use Rattle.cdb_form.specs.Views.Taking.{Took}
@@ -9,7 +9,9 @@ use Rattle.cdb_form.specs.declared.reading.ReadStop.{ReadStop}
 use Rattle.cdb_form.specs.declared.reading.ReadStop.TheVariants as unread
 use Rattle.cdb_form.specs.Views.TextFault.{IsReadFault, LastRead, unread_fault}
 use Rattle.cdb_form.specs.Views.Source.{IsTold}
+use Rattle.cdb_form.specs.Format.{record_of}
 use Rattle.cdb_form.specs.Views.FormReader.{ReadsItem}
+use Rattle.cdb_form.specs.Views.LongValue.{SpellsFront, value_ahead}
 use Rattle.cdb_form.specs.Views.NativeParser.{FailsBytes, FailsField, seen, told}
 
 -- digits were read that spell a value
@@ -70,15 +72,20 @@ told_of_text new asks Input h = absurd h
 told_of_text new asks Endless h = absurd h
 told_of_text new asks NoMemory h = absurd h
 
+-- what a fault leaves after some bytes
+pub leaves_behind : {R : Type 0} (feed : R → Feed) (old mid new : Source R) (bytes : List ℕ) (f : TextFault)
+    → Consumes (feed old.reader) (feed mid.reader) bytes → mid.taken ≡ old.taken + length bytes → budget old ≤ budget mid → Leaves feed mid new f → Leaves feed old new f
+leaves_behind feed old mid new bytes f read counted spends l = record {
+  took = took_behind _ _ _ _ _ _ bytes read counted l.took;
+  last = l.last;
+  told = l.told;
+  spends = omega (arith, spends, l.spends);
+}
+
 -- the same after some bytes and the byte that ends them
 pub leaves_past : {R : Type 0} (feed : R → Feed) (old mid new : Source R) (bytes : List ℕ) (c : ℕ) (f : TextFault)
     → Consumes (feed old.reader) (feed mid.reader) (bytes ++ c ∷ []) → mid.taken ≡ old.taken + (length bytes + 1) → budget old ≤ budget mid → Leaves feed mid new f → Leaves feed old new f
-leaves_past feed old mid new bytes c f read counted spends l = record {
-  took = took_behind _ _ _ _ _ _ (bytes ++ c ∷ []) read (omega (arith, counted, length-append bytes (c ∷ []))) l.took;
-  last = l.last;
-  told = l.told;
-  spends = omega (arith, l.spends);
-}
+leaves_past feed old mid new bytes c f read counted spends l = leaves_behind feed old mid new (bytes ++ c ∷ []) f read (omega (arith, counted, length-append bytes (c ∷ []))) spends l
 
 pub took_these : (old new : Feed) (from to : ℕ) (bytes : List ℕ) → Consumes old new bytes → to ≡ from + length bytes → Took old new from to
 took_these old new from to bytes read counted = record { bytes = bytes; read = read; counted = counted }
@@ -115,21 +122,40 @@ digits_leave feed old mid new greatest start value byte f so_far begin spent rea
   spends = omega (arith, spent, spends, counted);
 }
 
--- a whole record after a plus
-pub record_behind : (o m₁ m₂ m₃ m₄ n : Feed) (greatest from to : ℕ) (a b : List ℕ) (r : KeyValue)
-    → IsNumeral a (length r.key) → IsNumeral b (length r.value) → length r.key ≤ greatest → length r.value ≤ greatest → IsRecord r
-    → Consumes o m₁ (a ++ 44 ∷ []) → Consumes m₁ m₂ (b ++ 58 ∷ []) → Consumes m₂ m₃ (r.key ++ 45 ∷ []) → Consumes m₃ m₄ (62 ∷ [])
-    → Consumes m₄ n (r.value ++ 10 ∷ []) → to ≡ from + (length a + 1) + (length b + 1) + (length r.key + 1) + 1 + (length r.value + 1)
-    → ReadsBehind Spells (codes "+") greatest o n from to r
-record_behind o m₁ m₂ m₃ m₄ n greatest from to a b r ia ib fk fv bytes c₁ c₂ c₃ c₄ c₅ counted =
-    let text : List ℕ = a ++ 44 ∷ (b ++ 58 ∷ (r.key ++ 45 ∷ 62 ∷ (r.value ++ 10 ∷ []))) in
-    let all = consumes_then o m₄ n _ _ (consumes_then o m₃ m₄ _ _ (consumes_then o m₂ m₃ _ _ (consumes_then o m₁ m₂ _ _ c₁ c₂) c₃) c₄) c₅ in
+-- a record after a plus, up to its value
+pub front_behind : (o m₁ m₂ m₃ n : Feed) (greatest from to : ℕ) (a b key : List ℕ) (vlen : ℕ)
+    → IsNumeral a (length key) → IsNumeral b vlen → length key ≤ greatest → vlen ≤ greatest → AreBytes key
+    → Consumes o m₁ (a ++ 44 ∷ []) → Consumes m₁ m₂ (b ++ 58 ∷ []) → Consumes m₂ m₃ (key ++ 45 ∷ []) → Consumes m₃ n (62 ∷ [])
+    → to ≡ from + (length a + 1) + (length b + 1) + (length key + 1) + 1
+    → ReadsBehind SpellsFront (codes "+") greatest o n from to (value_ahead key vlen)
+front_behind o m₁ m₂ m₃ n greatest from to a b key vlen ia ib fk fv bytes c₁ c₂ c₃ c₄ counted =
+    let text : List ℕ = a ++ 44 ∷ (b ++ 58 ∷ (key ++ 45 ∷ 62 ∷ [])) in
+    let all = consumes_then o m₃ n _ _ (consumes_then o m₂ m₃ _ _ (consumes_then o m₁ m₂ _ _ c₁ c₂) c₃) c₄ in
     record {
       text = text;
-      spells = record { klen = a; vlen = b; klen_is = ia; vlen_is = ib; key_fits = fk; value_fits = fv; bytes = bytes; text_is = simp append_assoc refl };
+      spells = λ value are long. record {
+        klen = a;
+        vlen = b;
+        klen_is = ia;
+        vlen_is = subst (IsNumeral b) (sym long) ib;
+        key_fits = fk;
+        value_fits = omega (arith, long, fv);
+        bytes = record { key = bytes; value = are };
+        text_is = simp append_assoc refl;
+      };
       read = simp append_assoc at all;
       counted = simp length-append (omega (arith, counted));
     }
+
+-- and then its value
+pub value_behind : (o m n : Feed) (mark : List ℕ) (greatest from at to vlen : ℕ) (key value : List ℕ) → ReadsBehind SpellsFront mark greatest o m from at (value_ahead key vlen)
+    → AreBytes value → length value ≡ vlen → Consumes m n (value ++ 10 ∷ []) → to ≡ at + (vlen + 1) → ReadsBehind Spells mark greatest o n from to (record_of key value)
+value_behind o m n mark greatest from at to vlen key value front are long read counted = record {
+  text = front.text ++ (value ++ 10 ∷ []);
+  spells = simp append_assoc at front.spells value are long;
+  read = consumes_then o m n front.text (value ++ 10 ∷ []) front.read read;
+  counted = omega (arith, front.counted, counted, long, length-append front.text (value ++ 10 ∷ []), length-append value (10 ∷ []));
+}
 
 -- a whole removal after a minus
 pub removal_behind : (o m n : Feed) (greatest from to : ℕ) (a key : List ℕ)

@@ -1,12 +1,14 @@
 -- What a fault of the native parser says of the part of an item that it was reading. `from` is the
 -- place of the text's first byte.
 use Rattle.std.specs.Char.{digit_value}
-use Rattle.std.specs.Prelude.{ℕ, ◌*◌, List, ◌+◌, ◌<◌, [], ◌∷◌, ◌++◌, ◌-◌, take, length, ◌≤◌, ◌≡◌, ⊤, ◌≢◌, Bool, true, false}
+use Rattle.std.specs.Prelude.{ℕ, ◌*◌, List, ◌+◌, ◌<◌, [], ◌∷◌, ◌++◌, ◌-◌, take, length, ◌≤◌, ◌≡◌, ⊤, ◌≢◌, Bool, true, false, Option, None, Some, codes}
 use Rattle.std.specs.Str.Parse.{AllDigits, digits_value}
 use Rattle.cdb_form.specs.Format.{AreBytes}
 use Rattle.cdb_form.specs.Text.Parse.{SpellsChange}
 use Rattle.cdb_form.specs.Text.Native.{Spells}
 use Rattle.cdb_form.specs.Views.TextFault.{IsOfText, LastRead}
+use Rattle.cdb_form.specs.declared.item.ItemKind.{ItemKind}
+use Rattle.cdb_form.specs.declared.item.ItemKind.TheVariants.{Put, Remove}
 use Rattle.cdb_form.specs.declared.text.fault.TextFault.{TextFault}
 use Rattle.cdb_form.specs.declared.text.fault.TextFault.TheVariants.{Syntax, Ended, Large, Input, Endless}
 use Rattle.cdb_form.specs.Views.Feed.{Feed, Consumes, FromTo}
@@ -100,6 +102,12 @@ pub record ReadsBehind {X : Type 0} (spelling : ℕ → List ℕ → X → Type 
   pub spells : spelling greatest (mark ++ text) x
   pub read : Consumes old new text
   pub counted : to ≡ from + length text
+
+-- the byte that an item of this kind begins with, or the newline that ends a text
+abbrev pub mark_of : Option ItemKind → List ℕ
+mark_of None = codes "\n"
+mark_of (Some Put) = codes "+"
+mark_of (Some Remove) = codes "-"
 
 -- P is said of the text that the fault is one of
 abbrev pub FailsIn : {R : Type 0} → (R → Feed) → (old new : Source R)

@@ -1,10 +1,15 @@
 // Items out of a text of either form: what `TextReader` and `AmendReader` are made of.
-ghost use Rattle.std.specs.Prelude.{◌≡◌, ◌≢◌, ◌+◌, ◌≤◌, ◌^◌, length, false, Some, IfOk, IfErr, MatchOption};
+ghost use Rattle.std.specs.Prelude.{◌≡◌, ◌≢◌, ℕ, List, ◌+◌, ◌-◌, ◌<◌, ◌≤◌, ◌^◌, ◌++◌, length, take, false, Some, OnOk, IfOk, IfErr, IfSome, MatchOption};
+ghost use Rattle.cdb_form.specs.Format.{record_of};
 ghost use Rattle.cdb_form.specs.Text.Native.{Spells};
-ghost use Rattle.cdb_form.specs.Text.Parse.{SpellsChange};
+ghost use Rattle.cdb_form.specs.Text.Parse.{Putting, SpellsChange};
 ghost use Rattle.cdb_form.specs.Views.Fill.{Fills};
+ghost use Rattle.cdb_form.specs.Views.LongValue.{AmidValue, GivesNext, LeavesLonger};
 ghost use Rattle.cdb_form.specs.Views.Pairs.{change_in};
 ghost use Rattle.cdb_form.specs.declared.item.ItemKind.TheVariants.{Remove};
+ghost use Rattle.cdb_form.specs.declared.text.fault.TextFault.TheVariants.{NoMemory};
+ghost use Rattle.cdb_form.specs.declared.text.form_reader.FormReader.{FormReader};
+ghost use Rattle.cdb_form.specs.declared.text.long_value.Next.TheVariants.{Item};
 ghost use Rattle.cdb_form.specs.Views.Feed.{Repeats};
 
 use crate::feeds::Feeds;
@@ -14,7 +19,8 @@ use crate::text::at_hand::AtHand;
 use crate::text::fault::TextFault;
 use crate::text::fill::{Filled, fill};
 use crate::text::going::Going;
-use crate::text::source::Source;
+use crate::text::long_value::Next;
+use crate::text::source::{PIECE, Source};
 use crate::width::Width;
 use std::marker::PhantomData;
 
@@ -91,15 +97,102 @@ impl<R: Feeds, L: Width> FormReader<R, L> {
         ensures failed { (fault : _) → HasFailed self.old fault
             → Repeats (Err fault) self.old self.new result }
     {
+        match self.read_up_to(into, removals, u64::MAX)? {
+            Some(Next::Item(kind)) => Ok(Some(kind)),
+            // No value is longer.
+            Some(Next::Value(_)) => unreachable!(),
+            None => Ok(None),
+        }
+    }
+
+    /// Does what `read_into` does, but leaves a value of more than `most` bytes unread. Then the
+    /// record has the key, and the value that it had: `read_value` and `end_value` go on.
+    #[inline(always)]
+    pub fn read_up_to(
+        &mut self,
+        into: &mut Record,
+        removals: bool,
+        most: u64,
+    ) -> Result<Option<Next>, TextFault>
+        ensures gives { IfOk result (λ found. MatchOption found
+            (GivesEnd R.feed self.old self.new)
+            (GivesNext L.GREATEST R.feed self.old self.new into.new)) }
+        ensures longer { IfOk result (λ found.
+            IfSome found (LeavesLonger most into.old into.new)) }
+        ensures puts { removals ≡ false → IfOk result (λ found. found ≢ Some (Item Remove)) }
+        ensures fails { IfErr result
+            (FailsAs removals L.GREATEST R.feed self.old self.new) }
+        ensures ended { HasEnded self.old → Repeats (Ok None) self.old self.new result }
+        ensures failed { (fault : _) → HasFailed self.old fault
+            → Repeats (Err fault) self.old self.new result }
+    {
         if !self.going.reads_on()? {
             return Ok(None);
         }
-        match self.source.entry(into, L::GREATEST, removals) {
-            Ok(Some(kind)) => Ok(Some(kind)),
-            Ok(None) => {
-                self.going = Going::AtEnd;
-                Ok(None)
+        let answer = self.source.entry_up_to(into, L::GREATEST, removals, most);
+        match answer {
+            Ok(Some(_)) => {}
+            Ok(None) => self.going = Going::AtEnd,
+            Err(fault) => self.going = Going::Failed(fault),
+        }
+        answer
+    }
+
+    /// Reads the next bytes of a value that `read_up_to` left, of which `left` are still to come,
+    /// and returns how many stand at the start of `into` now: at least one, and no more than
+    /// `left`, than there is room for, and than 4096. What is behind them in `into` means nothing.
+    ///
+    /// It takes no memory. As `read_into` does, it fails with `Ended` if the input ends, `Input` if
+    /// the reader fails, and `Endless` if no request is left, and then every later item is that
+    /// fault.
+    pub fn read_value(&mut self, into: &mut [u8], left: u64) -> Result<usize, TextFault>
+        requires some { 0 < left }
+        requires room { 0 < length into.old }
+        requires amid { (first : FormReader R L) × (key : List ℕ) × (vlen : ℕ) × (got : List ℕ)
+            × AmidValue L.GREATEST R.feed first self.old key vlen got
+            × (left ≡ vlen - length got) }
+        ensures bound { IfOk result (λ n. (0 < n) × (n ≤ left) × (n ≤ length into.new)) }
+        ensures reads { (first : FormReader R L) (key : List ℕ) (vlen : ℕ) (got : List ℕ)
+            → AmidValue L.GREATEST R.feed first self.old key vlen got
+            → left ≡ vlen - length got → IfOk result (λ n.
+            AmidValue L.GREATEST R.feed first self.new key vlen (got ++ take n into.new)) }
+        ensures fails { (first : FormReader R L) (key : List ℕ) (vlen : ℕ) (got : List ℕ)
+            (removals : _) → AmidValue L.GREATEST R.feed first self.old key vlen got
+            → IfErr result (FailsAs removals L.GREATEST R.feed first self.new) }
+        ensures memory { IfErr result (λ fault. fault ≢ NoMemory) }
+    {
+        let most = left.min(into.len() as u64).min(PIECE) as usize;
+        match self.source.some_bytes(&mut into[..most]) {
+            Ok(n) => Ok(n),
+            Err(fault) => {
+                self.going = Going::Failed(fault);
+                Err(fault)
             }
+        }
+    }
+
+    /// Takes the newline after a value that `read_value` has read whole.
+    ///
+    /// It takes no memory. It fails as `read_value` does, and with `Syntax` if another byte is
+    /// there.
+    pub fn end_value(&mut self) -> Result<(), TextFault>
+        requires whole { (first : FormReader R L) × (key : List ℕ) × (vlen : ℕ) × (got : List ℕ)
+            × AmidValue L.GREATEST R.feed first self.old key vlen got × (length got ≡ vlen) }
+        ensures gives { (first : FormReader R L) (key : List ℕ) (vlen : ℕ) (got : List ℕ)
+            → AmidValue L.GREATEST R.feed first self.old key vlen got → length got ≡ vlen
+            → OnOk result (GivesItem SpellsChange L.GREATEST R.feed first self.new
+            (Putting (record_of key got))) }
+        ensures gives_native { (first : FormReader R L) (key : List ℕ) (vlen : ℕ) (got : List ℕ)
+            → AmidValue L.GREATEST R.feed first self.old key vlen got → length got ≡ vlen
+            → OnOk result (GivesItem Spells L.GREATEST R.feed first self.new (record_of key got)) }
+        ensures fails { (first : FormReader R L) (key : List ℕ) (vlen : ℕ) (got : List ℕ)
+            (removals : _) → AmidValue L.GREATEST R.feed first self.old key vlen got
+            → length got ≡ vlen
+            → IfErr result (FailsAs removals L.GREATEST R.feed first self.new) }
+        ensures memory { IfErr result (λ fault. fault ≢ NoMemory) }
+    {
+        match self.source.expect_byte(b'\n') {
+            Ok(()) => Ok(()),
             Err(fault) => {
                 self.going = Going::Failed(fault);
                 Err(fault)

@@ -6,10 +6,12 @@ ghost use Rattle.cdb_form.specs.Format.{AreBytes};
 ghost use Rattle.cdb_form.specs.Text.Parse.{SpellsChange, SpellsRemoval, SpellsKey};
 ghost use Rattle.cdb_form.specs.Text.Native.{IsNumeral, Spells};
 ghost use Rattle.cdb_form.specs.Views.FormReader.{ReadsItem};
-ghost use Rattle.cdb_form.specs.Views.NativeParser.{FailsNumber, FailsByte, FailsField, FailsEntry, FailsItem, FailsIn, Leaves, ReadsBehind};
+ghost use Rattle.cdb_form.specs.Views.LongValue.{SpellsFront, value_ahead};
+ghost use Rattle.cdb_form.specs.Views.NativeParser.{FailsNumber, FailsByte, FailsField, FailsEntry, FailsItem, FailsIn, Leaves, ReadsBehind, mark_of};
 ghost use Rattle.cdb_form.specs.Views.Source.{budget};
 ghost use Rattle.cdb_form.specs.Views.Pairs.{change_in, key_value};
 ghost use Rattle.cdb_form.specs.declared.item.ItemKind.TheVariants.{Remove};
+ghost use Rattle.cdb_form.specs.declared.text.fault.TextFault.TheVariants.{NoMemory};
 
 use crate::feeds::Feeds;
 use crate::item::ItemKind;
@@ -72,7 +74,7 @@ impl<R: Feeds> Source<R> {
     }
 
     /// The next byte, which is to be this one.
-    fn expect_byte(&mut self, byte: u8) -> Result<(), TextFault>
+    pub(crate) fn expect_byte(&mut self, byte: u8) -> Result<(), TextFault>
         ensures read { OnOk result (Consumes (R.feed self.old.reader)
             (R.feed self.new.reader) (byte ∷ [])) }
         ensures counted { OnOk result (self.new.taken ≡ self.old.taken + 1) }
@@ -82,6 +84,7 @@ impl<R: Feeds> Source<R> {
         ensures later { self.old.taken ≤ self.new.taken }
         ensures leaves { IfErr result (Leaves R.feed self.old self.new) }
         ensures spends { OnOk result (budget self.old ≤ budget self.new) }
+        ensures memory { IfErr result (λ fault. fault ≢ NoMemory) }
     {
         let at = self.taken;
         match self.byte()? {
@@ -94,7 +97,7 @@ impl<R: Feeds> Source<R> {
     /// Takes the next `len` bytes, and `stop` after them: the text goes on with `len + 1` bytes of
     /// any kind or ends early, so they are requested together.
     #[inline(always)]
-    fn field(&mut self, into: &mut Vec<u8>, len: u64, stop: u8) -> Result<(), TextFault>
+    pub(crate) fn field(&mut self, into: &mut Vec<u8>, len: u64, stop: u8) -> Result<(), TextFault>
         requires { len < 2 ^ 63 }
         ensures read { OnOk result (Consumes (R.feed self.old.reader)
             (R.feed self.new.reader) (into.new.items ++ stop ∷ [])) }
@@ -116,13 +119,20 @@ impl<R: Feeds> Source<R> {
         }
     }
 
-    /// Takes the record after a plus.
-    fn record(&mut self, into: &mut Record, greatest: u64) -> Result<(), TextFault>
+    /// Takes the record after a plus up to its value, with the key, and returns the value's length.
+    #[inline(always)]
+    pub(crate) fn record_front(
+        &mut self,
+        into: &mut Record,
+        greatest: u64,
+    ) -> Result<u64, TextFault>
         requires least { 9 ≤ greatest }
         requires most { greatest < 2 ^ 63 }
-        ensures read { OnOk result (ReadsBehind Spells (codes "+") greatest
+        ensures read { IfOk result (λ vlen. ReadsBehind SpellsFront (codes "+") greatest
             (R.feed self.old.reader) (R.feed self.new.reader)
-            self.old.taken self.new.taken (key_value into.new)) }
+            self.old.taken self.new.taken (value_ahead into.new.key.items vlen)) }
+        ensures fits { IfOk result (λ vlen. vlen ≤ greatest) }
+        ensures value { into.new.value ≡ into.old.value }
         ensures fewer { OnOk result (self.new.asks < self.old.asks) }
         ensures fails { (from : ℕ) (removals : _) → self.old.taken ≡ from + 1 →
             IfErr result (FailsIn R.feed self.old self.new (λ text.
@@ -135,13 +145,12 @@ impl<R: Feeds> Source<R> {
         let vlen = self.number(greatest, b':')?;
         self.field(&mut into.key, klen, b'-')?;
         self.expect_byte(b'>')?;
-        self.field(&mut into.value, vlen, b'\n')?;
-        Ok(())
+        Ok(vlen)
     }
 
     /// Takes the key after a mark, with its length before it and a newline after it. The mark is a
     /// minus before a removal's key, and a plus before a list text's.
-    fn marked_key(&mut self, into: &mut Record, greatest: u64) -> Result<(), TextFault>
+    pub(crate) fn marked_key(&mut self, into: &mut Record, greatest: u64) -> Result<(), TextFault>
         requires least { 9 ≤ greatest }
         requires most { greatest < 2 ^ 63 }
         ensures removes { OnOk result (ReadsBehind SpellsRemoval (codes "-") greatest
@@ -166,26 +175,16 @@ impl<R: Feeds> Source<R> {
         Ok(())
     }
 
-    /// Takes the next item, and answers its kind: none is at the newline that ends the text. With
-    /// no removals the text is a native one, and has puts alone.
-    #[inline(never)]
-    pub(crate) fn entry(
-        &mut self,
-        into: &mut Record,
-        greatest: u64,
-        removals: bool,
-    ) -> Result<Option<ItemKind>, TextFault>
-        requires least { 9 ≤ greatest }
-        requires most { greatest < 2 ^ 63 }
-        ensures read { IfOk result (λ found. MatchOption found
-            (Consumes (R.feed self.old.reader) (R.feed self.new.reader) (codes "\n")
-            × (self.new.taken ≡ self.old.taken + 1))
-            (λ kind. ReadsItem SpellsChange greatest (R.feed self.old.reader)
-            (R.feed self.new.reader) self.old.taken self.new.taken
-            (change_in kind into.new))) }
-        ensures puts { removals ≡ false → IfOk result (λ found. found ≢ Some Remove) }
+    /// Takes the byte that the next item begins with, and answers the item's kind: none is at the
+    /// newline that ends the text. With no removals the text is a native one, and has puts alone.
+    #[inline(always)]
+    pub(crate) fn mark(&mut self, removals: bool) -> Result<Option<ItemKind>, TextFault>
+        ensures read { IfOk result (λ found. Consumes (R.feed self.old.reader)
+            (R.feed self.new.reader) (mark_of found)) }
+        ensures counted { OnOk result (self.new.taken ≡ self.old.taken + 1) }
+        ensures removes { IfOk result (λ found. found ≡ Some Remove → removals ≡ true) }
         ensures fewer { OnOk result (self.new.asks < self.old.asks) }
-        ensures fails { IfErr result (FailsIn R.feed self.old self.new
+        ensures fails { (greatest : ℕ) → IfErr result (FailsIn R.feed self.old self.new
             (FailsEntry removals greatest self.old.taken)) }
         ensures later { self.old.taken ≤ self.new.taken }
         ensures leaves { IfErr result (Leaves R.feed self.old self.new) }
@@ -195,14 +194,8 @@ impl<R: Feeds> Source<R> {
         match self.byte()? {
             None => Err(TextFault::Ended(start)),
             Some(b'\n') => Ok(None),
-            Some(b'+') => {
-                self.record(into, greatest)?;
-                Ok(Some(ItemKind::Put))
-            }
-            Some(b'-') if removals => {
-                self.marked_key(into, greatest)?;
-                Ok(Some(ItemKind::Remove))
-            }
+            Some(b'+') => Ok(Some(ItemKind::Put)),
+            Some(b'-') if removals => Ok(Some(ItemKind::Remove)),
             Some(_) => Err(TextFault::Syntax(start)),
         }
     }

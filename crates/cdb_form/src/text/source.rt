@@ -8,7 +8,7 @@ use crate::text::at_hand::{AtHand, window_within};
 use crate::text::fault::TextFault;
 
 /// The number of bytes of a key or value that are requested at a time.
-const PIECE: u64 = 4096;
+pub(crate) const PIECE: u64 = 4096;
 
 /// A reader with the count of the bytes that it gave, and of the requests that it has left.
 #[derive(Drop)]

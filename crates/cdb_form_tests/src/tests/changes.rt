@@ -13,7 +13,7 @@ use std::test::Fail;
 const MIXED: &[u8] = b"+3,5:one->Hello\n-3:one\n-0:\n+0,0:->\n-003:two\n\n";
 
 /// Puts a record as `<key|value>` after others, or a removal as `[key]`.
-fn show(kind: ItemKind, record: &Record, shown: &mut Vec<u8>) -> Result<(), AllocError> {
+pub(super) fn show(kind: ItemKind, record: &Record, shown: &mut Vec<u8>) -> Result<(), AllocError> {
     let parts: [&[u8]; 5] = match kind {
         ItemKind::Put => [b"<", &record.key, b"|", &record.value, b">"],
         ItemKind::Remove => [b"[", &record.key, b"]", b"", b""],

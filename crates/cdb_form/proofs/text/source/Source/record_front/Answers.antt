@@ -1,18 +1,17 @@
-use Rattle.cdb_form.proofs.Words.{[], arith, common_steps, err_from_is_err_and, rules}
-use Rattle.cdb_form.proofs.Sources.SourceLemmas.{record_behind, leaves_past}
-use Rattle.cdb_form.proofs.NativeTexts.Stops.{record_fails, lift_klen, lift_vlen, lift_key, lift_angle, base_klen, base_vlen, base_key, base_angle, base_value}
-use Rattle.cdb_form.proofs.text.source.Source.record.Goals as goal
+use Rattle.cdb_form.proofs.Words.{arith, err_from_is_err_and}
+use Rattle.cdb_form.proofs.Sources.SourceLemmas.{front_behind, leaves_past}
+use Rattle.cdb_form.proofs.NativeTexts.Stops.{record_fails, lift_klen, lift_vlen, lift_key, base_klen, base_vlen, base_key, base_angle}
+use Rattle.cdb_form.proofs.text.source.Source.record_front.Goals as goal
 
 pub returns-clause-read : goal.returns-clause-read
 returns-clause-read g c =
     let a = c.in_ok-klen.ensures.read in
     let b = c.in_ok-vlen.ensures.read in
     let k = c.in_ok-field.ensures in
-    let v = c.in_ok-field-2.ensures in
-    record_behind _ _ _ _ _ _ c.args.greatest _ _ a.0 b.0 _
-    (rw k.long a.1) (rw v.long b.1) (omega (arith, c.in_ok-klen.ensures.fits, k.long)) (omega (arith, c.in_ok-vlen.ensures.fits, v.long)) (record { key = k.are; value = v.are })
-    a.2 b.2 k.read c.in_ok-expect_byte.ensures.read v.read
-    (omega (arith, a.3, b.3, k.long, v.long, k.counted, v.counted, c.in_ok-expect_byte.ensures.counted))
+    front_behind _ _ _ _ _ c.args.greatest _ _ a.0 b.0 _ _
+    (rw k.long a.1) b.1 (omega (arith, c.in_ok-klen.ensures.fits, k.long)) c.in_ok-vlen.ensures.fits k.are
+    a.2 b.2 k.read c.in_ok-expect_byte.ensures.read
+    (omega (arith, a.3, b.3, k.long, k.counted, c.in_ok-expect_byte.ensures.counted))
 
 pub returns-in_err-klen-clause-fails : goal.returns-in_err-klen-clause-fails
 returns-in_err-klen-clause-fails g c = λ from removals e.
@@ -75,45 +74,3 @@ returns-in_err-expect_byte-clause-leaves g c =
     (leaves_past g.R.Feeds.feed c.number.new.self c.number-2.new.self c.expect_byte.new.self b.0 58 _ b.2 b.3 c.in_ok-vlen.ensures.spends
     (leaves_past g.R.Feeds.feed c.number-2.new.self c.field.new.self c.expect_byte.new.self c.field.new.into.items 45 _ k.read (omega (arith, k.counted, k.long)) k.spends
     c.in_err-expect_byte.ensures.leaves)))
-
-pub returns-in_err-field-2-clause-fails : goal.returns-in_err-field-2-clause-fails
-returns-in_err-field-2-clause-fails g c = λ from removals e.
-    let p = err_from_is_err_and c.from_residual-in_err-field-2.result c.from_residual-in_err-field-2.ensures.1 in
-    let a = c.in_ok-klen.ensures.read in
-    let b = c.in_ok-vlen.ensures.read in
-    let k = c.in_ok-field.ensures in
-    rw (p.1, p.2) (record_fails removals _ from _ _ _ _ _ (g.met.R.Feeds.one_rest _) e (λ F s.
-    lift_klen F _ c.in_ok-klen.klen _ _ _ _ _ _ a.0 c.in_err-field-2.field-0.0 a.1 c.in_ok-klen.ensures.fits a.3 (omega (arith, c.in_ok-vlen.ensures.later, c.in_ok-field.ensures.later, c.in_ok-expect_byte.ensures.later, c.in_err-field-2.ensures.later)) a.2
-    (lift_vlen F _ c.in_ok-klen.klen c.in_ok-vlen.vlen _ _ _ _ _ _ b.0 c.in_err-field-2.field-0.0 b.1 c.in_ok-vlen.ensures.fits b.3 (omega (arith, c.in_ok-field.ensures.later, c.in_ok-expect_byte.ensures.later, c.in_err-field-2.ensures.later)) b.2
-    (lift_key F _ c.in_ok-klen.klen c.in_ok-vlen.vlen _ _ _ _ _ _ c.field.new.into.items c.in_err-field-2.field-0.0 k.long k.are k.counted (omega (arith, c.in_ok-expect_byte.ensures.later, c.in_err-field-2.ensures.later)) k.read
-    (lift_angle F _ c.in_ok-vlen.vlen _ _ _ _ _ _ c.in_err-field-2.field-0.0 c.in_ok-expect_byte.ensures.counted c.in_err-field-2.ensures.later c.in_ok-expect_byte.ensures.read
-    (base_value F _ c.in_ok-vlen.vlen _ _ _ _ _ s c.in_err-field-2.ensures.fails))))))
-
-pub returns-in_err-field-2-clause-leaves : goal.returns-in_err-field-2-clause-leaves
-returns-in_err-field-2-clause-leaves g c =
-    let p = err_from_is_err_and c.from_residual-in_err-field-2.result c.from_residual-in_err-field-2.ensures.1 in
-    let a = c.in_ok-klen.ensures.read in
-    let b = c.in_ok-vlen.ensures.read in
-    let k = c.in_ok-field.ensures in
-    rw (p.1, p.2) (leaves_past g.R.Feeds.feed c.args.self.now c.number.new.self c.field-2.new.self a.0 44 _ a.2 a.3 c.in_ok-klen.ensures.spends
-    (leaves_past g.R.Feeds.feed c.number.new.self c.number-2.new.self c.field-2.new.self b.0 58 _ b.2 b.3 c.in_ok-vlen.ensures.spends
-    (leaves_past g.R.Feeds.feed c.number-2.new.self c.field.new.self c.field-2.new.self c.field.new.into.items 45 _ k.read (omega (arith, k.counted, k.long)) k.spends
-    (leaves_past g.R.Feeds.feed c.field.new.self c.expect_byte.new.self c.field-2.new.self [] 62 _ c.in_ok-expect_byte.ensures.read c.in_ok-expect_byte.ensures.counted c.in_ok-expect_byte.ensures.spends c.in_err-field-2.ensures.leaves))))
-
-pub returns-clause-spends : goal.returns-clause-spends
-returns-clause-spends g c = grind (arith, common_steps)
-
-pub invariant_of-into-2 : goal.invariant_of-into-2
-invariant_of-into-2 g c = search rules
-
-pub invariant_of-into-in-Break-branch-4 : goal.invariant_of-into-in-Break-branch-4
-invariant_of-into-in-Break-branch-4 g c = grind (arith, common_steps)
-
-pub returns-clause-fewer : goal.returns-clause-fewer
-returns-clause-fewer g c = search rules
-
-pub returns-in_err-field-2-clause-later : goal.returns-in_err-field-2-clause-later
-returns-in_err-field-2-clause-later g c = omega arith
-
-pub number-requires-2 : goal.number-requires-2
-number-requires-2 g c = omega arith
