@@ -2,7 +2,7 @@
 use Rattle.std.proofs.Common.{◌≡◌, ℕ, ◌+◌, ◌-◌, ◌*◌, ◌<◌, ◌≤◌, ◌⊎◌, inl, inr, Bool, true, false, List, [], ◌∷◌, ◌++◌, length, refl, sym, ap, subst, ◌∙◌, arith, append_assoc, length-append, Result, Ok, Err, IfOk, IfErr, OnErr}
 use Rattle.std.specs.Prelude.{All, sum_by}
 use Rattle.std.proofs.Math.Nat.{mul-add, mul-le-mul_left}
-use Rattle.cdb_make.proofs.Words.{marks_in, AfterWrite, AreOf, AreSized, ComesFrom, CompactsAll, Ghosts, HasGone, HasNotFailed, Holds, IsRecord, KeyValue, MakeFault, Maker, Roll, SameCounts, SameRecords, StaysWhole, append-nil, count_in, file_size, gone_in, gone_of, head_size, is_gone, key_hash, left, length-map, made_size, part, part-overwrite, places_in, record_bytes, record_size, searched, size_split, sought_in, sum_by-append, sum_by_push, whole_size}
+use Rattle.cdb_make.proofs.Words.{marks_in, AfterWrite, AreOf, AreSized, ComesFrom, CompactsAll, Ghosts, HasGone, HasNotFailed, Holds, IsRecord, KeyValue, MakeFault, Maker, SameCounts, SameRecords, StaysWhole, append-nil, count_in, file_size, gone_in, gone_of, head_size, is_gone, key_hash, left, length-map, made_size, part, part-overwrite, places_in, record_bytes, record_size, searched, size_split, sought_in, sum_by-append, sum_by_push, whole_size}
 use Rattle.cdb_store.specs.Images.{ImagesHold as Stored}
 use Rattle.cdb_form.specs.declared.width.Width.{Ghosts as Widths}
 use Rattle.cdb_store.specs.declared.make_fault.MakeFault.TheVariants.{Broken, Lookup, TooBig, NoMemory, Writing}
@@ -41,11 +41,11 @@ stays_noted {s = s} old new was whole kept marks same = record {
 }
 
 -- a record whose bytes follow the others is held once it is noted
-pub entered : {S L : Type 0} {s : Ghosts S} {l : Widths L} (old new : Maker S L s l) (m : Roll L l) (r : KeyValue) → SameRecords old.roll m → IsRecord r → old.broken ≡ false → new.broken ≡ false → new.roll.hashes.items ≡ m.hashes.items ++ key_hash r.key ∷ [] → new.roll.tagged ≡ m.tagged → searched new.roll ≡ searched m ++ sought_in m r.key ∷ []
-    → ((sizes : List ℕ) → AreOf (head_size l.WORD) (places_in m.places) m.end sizes → AreOf (head_size l.WORD) (places_in new.roll.places) new.roll.end (sizes ++ record_size l.WORD r ∷ []))
+pub entered : {S L : Type 0} {s : Ghosts S} {l : Widths L} (old new : Maker S L s l) (r : KeyValue) → IsRecord r → new.broken ≡ false → new.roll.hashes.items ≡ old.roll.hashes.items ++ key_hash r.key ∷ [] → new.roll.tagged ≡ old.roll.tagged → searched new.roll ≡ searched old.roll ++ sought_in old.roll r.key ∷ []
+    → ((sizes : List ℕ) → AreOf (head_size l.WORD) (places_in old.roll.places) old.roll.end sizes → AreOf (head_size l.WORD) (places_in new.roll.places) new.roll.end (sizes ++ record_size l.WORD r ∷ []))
     → gone_in new ≡ gone_in old ++ false ∷ [] → new.roll.end ≡ old.roll.end + record_size l.WORD r → new.roll.gone.count ≡ old.roll.gone.count → new.roll.gone.size ≡ old.roll.gone.size → new.limit ≡ old.limit → new.store ≡ old.store
     → Stored old.roll.end (record_bytes l.WORD r) (s.image old.store) → Enters old new (r ∷ [])
-entered {s = s} {l = l} old new m r kept is_record was whole hashes tagged numbers of marks end gone size limit same stored = record {
+entered {s = s} {l = l} old new r is_record whole hashes tagged numbers of marks end gone size limit same stored = record {
   whole = whole;
   holds = λ before h. record {
     whole = whole;
@@ -53,18 +53,29 @@ entered {s = s} {l = l} old new m r kept is_record was whole hashes tagged numbe
         let there : s.image old.store b = subst (λ (v : _). s.image v b) same is in
         let held = h.each b there in
         let many : length (gone_in old) ≡ length held.all = omega (arith, length-map (marks_in old.roll) is_gone, (marks_long old.roll), sees_long old.roll held.all b held.sees) in
-        let behind = subst (λ (n : ℕ). part n (length (record_bytes l.WORD r)) b ≡ record_bytes l.WORD r) (sym kept.end) (stored.each b there) in
         record {
           all = held.all ++ r ∷ [];
-          sees = sees_entered m new.roll r held.all b is_record hashes tagged numbers of behind (sees_same old.roll m held.all b kept held.sees);
+          sees = sees_entered old.roll new.roll r held.all b is_record hashes tagged numbers of (stored.each b there) held.sees;
           left = ap (λ v. v ++ r ∷ []) held.left ∙ sym (ap (λ (v : List Bool). left v (held.all ++ r ∷ [])) marks ∙ left-append (gone_in old) (false ∷ []) held.all (r ∷ []) many);
         };
   };
   end = (let e : sum_by (record_size l.WORD) (r ∷ []) ≡ record_size l.WORD r = omega (arith, sum_by_push (record_size l.WORD) [] r) in omega (arith, end, e));
-  count = ap length hashes ∙ length-append m.hashes.items (key_hash r.key ∷ []) ∙ ap (λ (v : List ℕ). length v + 1) kept.hashes;
+  count = ap length hashes ∙ length-append old.roll.hashes.items (key_hash r.key ∷ []);
   gone = gone;
   gone_size = size;
   limit = limit;
+}
+
+-- the same records were noted before
+pub enters_after : {S L : Type 0} {s : Ghosts S} {l : Widths L} (old mid new : Maker S L s l) (rs : List KeyValue) → StaysWhole old mid → SameRecords old.roll mid.roll → mid.roll.gone ≡ old.roll.gone → mid.limit ≡ old.limit → Enters mid new rs → Enters old new rs
+enters_after old mid new rs stays same gone limit entered = record {
+  whole = entered.whole;
+  holds = λ before h. entered.holds before (stays.holds before h);
+  end = omega (arith, entered.end, same.end);
+  count = entered.count ∙ ap (λ (v : List ℕ). length v + length rs) same.hashes;
+  gone = entered.gone ∙ ap (λ q. q.count) gone;
+  gone_size = entered.gone_size ∙ ap (λ q. q.size) gone;
+  limit = entered.limit ∙ limit;
 }
 
 -- one more

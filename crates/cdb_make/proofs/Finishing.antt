@@ -182,6 +182,25 @@ pub compacted_counts : {S L T E : Type 0} {s : Ghosts S} {l : Widths L} (i j : M
 compacted_counts i j (Ok x) was compacts none size end count limit torn = whole_counts i j was compacts.whole (left_counts i j none size end count) limit
 compacted_counts i j (Err e) was compacts none size end count limit torn = torn
 
+-- the records that stay are held
+pub stays_whole : {S L : Type 0} {s : Ghosts S} {l : Widths L} (i j : Maker S L s l) → i.broken ≡ false → Stays i j → StaysWhole i j
+stays_whole i j was stays = record {
+  was = was;
+  whole = stays.broken ∙ was;
+  holds = λ rs h. record {
+    whole = stays.broken ∙ was;
+    each = λ b is.
+        let g = stays.goes.each b is in
+        let held = h.each g.0 g.1 in
+        let q = g.2 held.all held.sees in
+        record {
+          all = q.0;
+          sees = q.1;
+          left = held.left ∙ ap (λ v. left (gone_of v) held.all) (sym stays.marks) ∙ ap (left (gone_in j)) (sym q.2);
+        };
+  };
+}
+
 -- if a look was made
 pub rests_nothing : {S L : Type 0} {s : Ghosts S} {l : Widths L} (i j : Maker S L s l) → Rests i j → WritesNothing i j
 rests_nothing i j rests = record {

@@ -20,5 +20,6 @@ pub mod Meeting
 pub mod BegunHeads
 pub mod Lowering
 pub mod Ends
+pub mod Longs
 pub mod Callers
 mod Words

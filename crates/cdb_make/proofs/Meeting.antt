@@ -10,7 +10,7 @@ use Rattle.cdb_store.specs.declared.make_fault.MakeFault.TheVariants.{Broken, Lo
 use Rattle.cdb_make.specs.Survivors.{has_key, is_there, count_of, behind_first, put_list, put_answer}
 use Rattle.cdb_make.specs.Views.Maker.{gone_in, found_in, Holds, Rests, Stays, Seeks, Meets, Admits, Puts, Follows, IsOver, IsWithin, IsTooBig, WouldPut, WantsRoom, OnlyAdds, PassesRoom, DoesNothing, WritesNothing, HasFailedToWrite, HasNotFailed, HasStoreFailed, HasGone, HasGoneOr, HasKey, IsAnswerTo, FailsLater, IsTorn, WhereHonest, IsMarked, IsHalfway, FailsAdmitting, FailsPutting, IsAlone, IsShort, put_bytes, lone_bytes, goes_with, is_present}
 use Rattle.cdb_make.proofs.Ends.{end_passed}
-use Rattle.cdb_make.proofs.Finishing.{gone_lazy}
+use Rattle.cdb_make.proofs.Finishing.{gone_lazy, rests_nothing, stays_whole}
 use Rattle.cdb_make.proofs.Looking.{same_back, same_self, sees_long, sees_same}
 use Rattle.cdb_make.proofs.Picking.{left_all_stay, left_sum, end_sum, number_none, gone_taken, number_taken, both_within, both_few}
 use Rattle.cdb_make.proofs.Rolls.{left_file, slots_add, whole_push}
@@ -260,18 +260,7 @@ puts_none {s = s} {l = l} i j hash mode r put p m = record {
 }
 
 held_still : {S L : Type 0} {s : Ghosts S} {l : Widths L} (i j k : Maker S L s l) → Rests i j → Stays j k → (rs : List KeyValue) → Holds i rs → Holds k rs
-held_still i j k rests stays rs h = record {
-  whole = stays.broken ∙ rests.whole;
-  each = λ b is.
-      let g = stays.goes.each b is in
-      let held = h.each g.0 (rests.reads.images g.0 g.1) in
-      let q = g.2 held.all (sees_same i.roll j.roll held.all g.0 rests.same held.sees) in
-      record {
-        all = q.0;
-        sees = q.1;
-        left = held.left ∙ ap (λ (v : List Bool). left v held.all) (sym rests.gone) ∙ ap (λ v. left (gone_of v) held.all) (sym stays.marks) ∙ ap (left (gone_in k)) (sym q.2);
-      };
-}
+held_still i j k rests stays rs h = (stays_whole j k rests.whole stays).holds rs ((rests_nothing i j rests).stays.holds rs h)
 
 -- the file once they are gone
 kept_file : {L : Type 0} {l : Widths L} (m : Roll L l) (all : List KeyValue) (b : List ℕ) → (l.WORD ≡ 4) ⊎ (l.WORD ≡ 8) → Sees m all b

@@ -1,5 +1,5 @@
 -- What a roll says of an image, step by step.
-use Rattle.cdb_make.proofs.Words.{marks_in, AfterTornWrite, AreNone, AreOf, Bool, Ghosts, IsErrAnd, IsRecord, KeepsPart, KeyValue, List, LookFault, MakeFault, Maker, OnlyReads, Roll, SameImages, SameRecords, Sees, SeesNone, Stand, [], ap, arith, cases_eq, cases_lt, cond, end_from, false, file_size, found_of, fresh, get_or, get_or_append_left, get_or_past, get_or_push, gone_of, has_key, head_size, inl, inr, joined, key_hash, left, length, length-append, length-map, length_push, map, map-append, not, number, or_each, overwrite, part, part-overwrite, part_add, part_from_take, picked, places_in, record_bytes, record_size, refl, searched, sought_in, subst, sum_by, sum_by-cons, sum_by_push, sym, take, take-overwrite, true, whole_size, without, ℕ, ◌*◌, ◌++◌, ◌+◌, ◌<◌, ◌∙◌, ◌∷◌, ◌≡◌, ◌≤◌, ◌⊎◌, kept_torn}
+use Rattle.cdb_make.proofs.Words.{marks_in, AfterTornWrite, AreNone, AreOf, Bool, Ghosts, IsErrAnd, IsRecord, KeepsPart, KeyValue, List, LookFault, MakeFault, Maker, OnlyReads, Roll, SameImages, SameRecords, Sees, SeesNone, Stand, [], ap, arith, cases_eq, cases_lt, cond, end_from, false, file_size, found_of, fresh, get_or, get_or_append_left, get_or_past, get_or_push, gone_of, has_key, head_size, inl, inr, joined, key_hash, left, length, length-append, length-map, length_push, map, map-append, not, number, or_each, overwrite, part, part-overwrite, part_add, part_from_take, picked, places_in, record_bytes, record_size, refl, searched, sought_in, subst, sum_by, sum_by-cons, sum_by_push, sym, take, take-overwrite, take-take, true, whole_size, without, ℕ, ◌*◌, ◌++◌, ◌+◌, ◌<◌, ◌∙◌, ◌∷◌, ◌≡◌, ◌≤◌, ◌⊎◌, kept_torn}
 use Rattle.std.specs.Prelude.{All, sum, Result, Ok, Err, IfErr, OnOk, OnErr}
 use Rattle.std.proofs.lemmas.List.Elements.{All-append, All-cons, All-nil, All-head, All-tail}
 use Rattle.cdb_form.specs.declared.width.Width.{Ghosts as Widths}
@@ -9,7 +9,7 @@ use Rattle.cdb_store.specs.declared.store.StoreFault.{StoreFault}
 use Rattle.cdb_store.specs.declared.store.StoreFault.TheVariants.{Device, NoMemory as Refused}
 use Rattle.cdb_store.specs.declared.make_fault.MakeFault.TheVariants.{Broken, Lookup, TooBig, NoMemory, Writing}
 use Rattle.cdb_store.specs.MakeFault.{fault_of}
-use Rattle.cdb_make.specs.Views.Maker.{Goes, ComesFrom, AddFails, Follows, Stays, IsMarked, FailsExchanging, FailsCompacting, FailsLooking, DoesNothing, PassesRoom, HasStoreFailed, gone_in, found_in, is_foreign, look_fault}
+use Rattle.cdb_make.specs.Views.Maker.{Goes, ComesFrom, AddFails, Follows, Stays, IsMarked, FailsExchanging, FailsCompacting, FailsLooking, HasStoreFailed, gone_in, found_in, is_foreign, look_fault}
 use Rattle.cdb_make.proofs.Spans.{left-map, joined_more, joined_end, kept_then}
 use Rattle.cdb_make.proofs.Looking.{sizes_of, sees_long, sees_same, same_self}
 use Rattle.cdb_make.proofs.Picking.{left_sum, left_number, end_sum}
@@ -163,12 +163,14 @@ none_more ms new is none k = ap (λ (v : List Bool). get_or v k false) is ∙ el
   ]
 ]
 
--- why a record was not added
-pub add_fails : (result : Result (Unit {0}) MakeFault) (e : StoreFault) (w w₁ f f₁ u u₁ : ℕ) (wants : Type 0) → IsErrAnd result (λ v. v ≡ fault_of e) → (e ≡ Refused → (w₁ ≡ w) × (f₁ ≡ f) × wants) → (e ≡ Device → (f < f₁) × (u < u₁))
-    → IfErr result (AddFails w w₁ f f₁ u u₁ wants)
-add_fails (Ok x) e w w₁ f f₁ u u₁ wants is memory device = tt
-add_fails (Err v) Device w w₁ f f₁ u u₁ wants is memory device = subst (AddFails w w₁ f f₁ u u₁ wants) (sym is) (device refl)
-add_fails (Err v) Refused w w₁ f f₁ u u₁ wants is memory device = subst (AddFails w w₁ f f₁ u u₁ wants) (sym is) (memory refl)
+-- a fault that is known, and that of a store
+pub fails_with : {T : Type 0} (P : MakeFault → Type 0) (result : Result T MakeFault) (f : MakeFault) → IsErrAnd result (λ v. v ≡ f) → P f → IfErr result P
+fails_with P (Ok x) f is h = tt
+fails_with P (Err v) f is h = subst P (sym is) h
+
+pub store_fails : {T : Type 0} (P : MakeFault → Type 0) (result : Result T MakeFault) (e : StoreFault) → IsErrAnd result (λ v. v ≡ fault_of e) → (e ≡ Refused → P NoMemory) → (e ≡ Device → P Writing) → IfErr result P
+store_fails P result Device is memory device = fails_with P result Writing is (device refl)
+store_fails P result Refused is memory device = fails_with P result NoMemory is (memory refl)
 
 -- slots of some and of others
 pub slots_add : (w a b : ℕ) → (w ≡ 4) ⊎ (w ≡ 8) → 4 * w * (a + b) ≡ 4 * w * a + 4 * w * b
@@ -240,12 +242,6 @@ exchange_fails i j k (Err Writing) wants room whole none follows goes stays fail
 pub torn_fails : {S L : Type 0} {s : Ghosts S} {l : Widths L} (i k : Maker S L s l) (result : Result (Unit {0}) MakeFault) (f : MakeFault) → f ≡ Writing → k.broken ≡ true → HasStoreFailed i k → IsMarked k → IsErrAnd result (λ v. v ≡ f) → IfErr result (FailsExchanging i k)
 torn_fails i k (Ok x) f is broken failed marked e = tt
 torn_fails i k (Err v) f is broken failed marked e = subst (FailsExchanging i k) (sym (e ∙ is)) (inl (broken, failed, marked))
-
--- no room was made for a record
-pub room_fails : {S L : Type 0} {s : Ghosts S} {l : Widths L} (i k : Maker S L s l) (result : Result (Unit {0}) MakeFault) (e : StoreFault) (r : KeyValue) → IsErrAnd result (λ v. v ≡ fault_of e) → (e ≡ Device → ⊥) → DoesNothing i k → PassesRoom i r → IfErr result (FailsCompacting i k r)
-room_fails i k (Ok x) e r is device nothing past = tt
-room_fails i k (Err v) Device r is device nothing past = absurd (device refl)
-room_fails i k (Err v) Refused r is device nothing past = subst (FailsCompacting i k r) (sym is) (nothing, past)
 
 -- ---- what a maker holds
 
@@ -351,6 +347,22 @@ follows_read i j limit lazy reads = record {
   room = reads.room;
   failures = reads.failures;
   unwritten = reads.unwritten;
+}
+
+-- bytes after the records were written, or nothing was
+pub stays_behind : {S L : Type 0} {s : Ghosts S} {l : Widths L} (i j : Maker S L s l) {at n : ℕ} → SameRecords i.roll j.roll → marks_in j.roll ≡ marks_in i.roll → j.roll.gone ≡ i.roll.gone → j.roll.found ≡ i.roll.found → j.broken ≡ i.broken → i.roll.end ≤ at → AfterTornWrite at n (s.image i.store) (s.image j.store) → Stays i j
+stays_behind i j {at = at} same marks gone found broken behind torn = record {
+  same = same;
+  marks = marks;
+  gone = gone;
+  found = found;
+  broken = broken;
+  goes = record {
+    each = λ b is.
+        let h = torn.no_other b is in
+        let front : take i.roll.end b ≡ take i.roll.end h.0 = sym (take-take i.roll.end at b behind) ∙ ap (take i.roll.end) h.2.before ∙ take-take i.roll.end at h.0 behind in
+        (h.0, h.1, λ all sees. (all, sees_kept i.roll j.roll all h.0 b same front sees, refl));
+  };
 }
 
 -- a write after the head

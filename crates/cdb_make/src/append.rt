@@ -5,7 +5,7 @@ ghost use Rattle.cdb_form.specs.Format.{whole_size, key_hash, KeyValue, IsRecord
 ghost use Rattle.cdb_store.specs.declared.make_fault.MakeFault.TheVariants.{NoMemory};
 ghost use Rattle.cdb_make.specs.Views.Appending.{records_at, first_size, AreFirst};
 ghost use Rattle.cdb_make.specs.Chains.{second_hash};
-ghost use Rattle.cdb_make.specs.Views.Roll.{SameRecords};
+ghost use Rattle.cdb_make.specs.Views.Roll.{HasRoom, SameRecords};
 
 use crate::maker::Maker;
 use crate::tags::number_of;
@@ -19,8 +19,8 @@ pub struct FirstRecord<'a> {
     pub key: &'a [u8],
     /// The value.
     pub value: &'a [u8],
-    /// The number of bytes of the record.
-    pub size: usize,
+    /// All bytes of the record, as a file has them.
+    pub bytes: &'a [u8],
 }
 
 /// The whole record with which some bytes begin.
@@ -28,16 +28,18 @@ pub fn first_record<L: Width>(bytes: &[u8]) -> FirstRecord<'_>
     requires { prefix_size L.WORD bytes.now ≤ length bytes.now }
     ensures key { result.key.now ≡ (prefix_record L.WORD bytes.now).key }
     ensures value { result.value.now ≡ (prefix_record L.WORD bytes.now).value }
-    ensures size { result.size ≡ prefix_size L.WORD bytes.now }
+    ensures bytes { result.bytes.now ≡ take (prefix_size L.WORD bytes.now) bytes.now }
+    ensures size { length result.bytes.now ≡ prefix_size L.WORD bytes.now }
 {
     let pair = pair_size::<L>();
     let header = read_header::<L>(&bytes[..pair]);
     let value = pair + header.klen as usize;
     let size = value + header.vlen as usize;
+    let whole = &bytes[..size];
     FirstRecord {
         key: &bytes[pair..value],
         value: &bytes[value..size],
-        size,
+        bytes: whole,
     }
 }
 
@@ -89,6 +91,30 @@ impl<S: Store, L: Width> Maker<S, L> {
     ghost use Rattle.cdb_make.specs.Views.Maker.{StaysWhole, Follows, HasNotFailed, MakerKeepsAll};
     ghost use Rattle.cdb_make.specs.Views.Appending.{AppendsAll, AppendsSome, FailsAppending, BeginsTags, Enters, KeepsLimit, IsCrowded, FailsWriting, full_size};
 
+    /// Notes a record whose bytes are in the store, after the others. The roll has room for it.
+    #[inline(always)]
+    pub(crate) fn note(&mut self, tagged: bool, hash: u32, number: u32, size: u64)
+        requires tagged { tagged ≡ self.old.roll.tagged }
+        requires whole { self.old.broken ≡ false }
+        requires room { HasRoom self.old.roll }
+        requires inside { self.old.roll.end + size ≤ S.size self.old.store }
+        requires within { full_size self.old + size + 4 * L.WORD ≤ self.old.limit }
+        ensures enters { (r : KeyValue) → IsRecord r → hash ≡ key_hash r.key
+            → (self.old.roll.tagged ≡ true → number ≡ second_hash r.key)
+            → size ≡ record_size L.WORD r
+            → AreIn self.old.roll.end (record_bytes L.WORD r) (S.image self.old.store)
+            → Enters self.old self.new (r ∷ []) }
+        ensures end { self.new.roll.end ≡ self.old.roll.end + size }
+        ensures whole { self.new.broken ≡ false }
+        ensures limit { self.new.limit ≡ self.old.limit }
+        ensures lazy { self.new.lazy ≡ self.old.lazy }
+        ensures gone { self.new.roll.gone.count ≡ self.old.roll.gone.count }
+        ensures store { self.new.store ≡ self.old.store }
+        ensures tagged { self.new.roll.tagged ≡ self.old.roll.tagged }
+    {
+        self.roll.push(tagged, hash, number, size);
+    }
+
     /// Notes a record whose bytes are in the store, after the others.
     ///
     /// `NoMemory`: the records are what they were.
@@ -114,7 +140,7 @@ impl<S: Store, L: Width> Maker<S, L> {
         ensures tagged { self.new.roll.tagged ≡ self.old.roll.tagged }
     {
         self.roll.reserve()?;
-        self.roll.push(tagged, hash, number, size);
+        self.note(tagged, hash, number, size);
         Ok(())
     }
 
@@ -152,8 +178,8 @@ impl<S: Store, L: Width> Maker<S, L> {
             let first = first_record::<L>(&bytes[place..]);
             let hash = hash(first.key);
             let number = number_of(tagged, hash, first.key);
-            self.enter(tagged, hash, number, first.size as u64)?;
-            place += first.size;
+            self.enter(tagged, hash, number, first.bytes.len() as u64)?;
+            place += first.bytes.len();
         }
         Ok(())
     }

@@ -8,6 +8,8 @@ pub(crate) struct Candidate<'a> {
     pub(crate) key: &'a [u8],
     /// The value of the record.
     pub(crate) value: &'a [u8],
+    /// All bytes of the record, as a file has them, or none if they are not at hand.
+    pub(crate) bytes: &'a [u8],
     /// The hash of the record's key.
     pub(crate) hash: u32,
     /// The number that the roll notes if its records are tagged: the second hash of the record's

@@ -79,9 +79,9 @@ impl<S: Store, L: Width> Maker<S, L> {
             < self.old.roll.end + record_size L.WORD (record_in candidate.entry)))) }
         ensures follows { Follows self.old self.new }
     {
-        let (key, value) = (candidate.key, candidate.value);
+        let (key, value, bytes) = (candidate.key, candidate.value, candidate.bytes);
         self.roll.reserve()?;
-        append_record::<S, L>(&mut self.store, self.roll.end, key, value)?;
+        append_record::<S, L>(&mut self.store, self.roll.end, key, value, bytes)?;
         let size = pair_size::<L>() as u64 + key.len() as u64 + value.len() as u64;
         let tagged = self.roll.tagged;
         self.roll

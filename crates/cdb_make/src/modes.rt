@@ -2,11 +2,13 @@
 ghost use Rattle.std.specs.Prelude.{◌≡◌, ◌≢◌, ℕ, ◌+◌, List, true, false, IfOk, IfErr, OnOk, OnErr};
 ghost use Rattle.cdb_form.specs.declared.mode.Mode.TheVariants.{Add};
 ghost use Rattle.cdb_store.specs.declared.make_fault.MakeFault.TheVariants.{Lookup};
-ghost use Rattle.cdb_form.specs.Format.{key_hash, record_of};
+ghost use Rattle.cdb_form.specs.Format.{key_hash, record_of, record_bytes};
 ghost use Rattle.cdb_make.specs.Chains.{second_hash};
 ghost use Rattle.cdb_make.specs.Views.Roll.{IsSought, HasRoom};
+ghost use Rattle.cdb_make.specs.Views.Writing.{AreWhole};
 
 use crate::answer::Put;
+use crate::append::FirstRecord;
 use crate::candidate::Candidate;
 use crate::maker::Maker;
 use cdb_form::{Mode, Width, hash};
@@ -71,7 +73,8 @@ impl<S: Store, L: Width> Maker<S, L> {
         mode == Mode::Add && !self.broken && !self.roll.tagged && self.roll.takes_none()
     }
 
-    /// Puts a record as `put` does, once the hash of its key is known.
+    /// Puts a record as `put` does, once the hash of its key is known. `bytes` holds all its bytes,
+    /// or is empty if they are not at hand as a file has them.
     #[cold]
     #[inline(never)]
     fn put_by_mode(
@@ -80,8 +83,10 @@ impl<S: Store, L: Width> Maker<S, L> {
         hash: u32,
         key: &[u8],
         value: &[u8],
+        bytes: &[u8],
     ) -> Result<Put, MakeFault>
-        requires { hash ≡ key_hash key.now }
+        requires hash { hash ≡ key_hash key.now }
+        requires whole { AreWhole L.WORD (record_of key.now value.now) bytes.now }
         ensures puts { IfOk result
             (Puts self.old self.new mode (record_of key.now value.now)) }
         ensures fails { IfErr result
@@ -94,6 +99,7 @@ impl<S: Store, L: Width> Maker<S, L> {
             self.admit(Candidate {
                 key,
                 value,
+                bytes,
                 hash,
                 number: sought,
             })?;
@@ -123,11 +129,29 @@ impl<S: Store, L: Width> Maker<S, L> {
             self.add_alone(Candidate {
                 key,
                 value,
+                bytes: b"",
                 hash,
                 number: hash,
             })?;
             return Ok(Put::Added);
         }
-        self.put_by_mode(mode, hash, key, value)
+        self.put_by_mode(mode, hash, key, value, b"")
+    }
+
+    /// Puts a record as `put` does, by one write of its bytes, which are at hand as a file has them.
+    ///
+    /// It fails as `put` does.
+    #[inline(always)]
+    pub fn put_whole(&mut self, mode: Mode, first: FirstRecord<'_>) -> Result<Put, MakeFault>
+        requires { first.bytes.now ≡ record_bytes L.WORD (record_of first.key.now first.value.now) }
+        ensures puts { IfOk result
+            (Puts self.old self.new mode (record_of first.entry.key.now first.entry.value.now)) }
+        ensures fails { IfErr result (FailsPutting self.old self.new mode
+            (record_of first.entry.key.now first.entry.value.now)) }
+        ensures follows { Follows self.old self.new }
+        ensures fine { OnOk result (HasNotFailed self.old self.new) }
+        ensures counts { OnErr result (SameCounts self.old self.new) }
+    {
+        self.put_by_mode(mode, hash(first.key), first.key, first.value, first.bytes)
     }
 }

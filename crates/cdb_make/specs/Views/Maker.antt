@@ -23,6 +23,7 @@ use Rattle.cdb_form.specs.declared.mode.Mode.TheVariants.{Add, Warn, Insert, Rep
 use Rattle.cdb_make.specs.declared.answer.Put.{Put}
 use Rattle.cdb_make.specs.declared.answer.Put.TheVariants.{Added, AddedAgain, Present, Replaced}
 use Rattle.cdb_make.specs.Views.Roll.{searched, sought_in, marks_in, HasRoom, SameRecords}
+use Rattle.cdb_make.specs.Views.Writing.{AreWhole}
 
 -- its store, the greatest size that its file may have, whether it takes records out later, and
 -- whether an earlier call broke it
@@ -45,13 +46,15 @@ gone_in m = gone_of (marks_in m.roll)
 abbrev pub found_in : {S L : Type 0} {s : Ghosts S} {l : Widths L} → Maker S L s l → List Bool
 found_in m = found_of (marks_in m.roll)
 
--- the record of a candidate; and its numbers are those by which a roll will find it
+-- the record of a candidate; and its numbers are those by which a roll will find it, and its bytes
+-- are the record's, if they are at hand
 abbrev pub record_in : Candidate → KeyValue
 record_in c = record_of c.key.now c.value.now
 
 pub record IsCandidate {L : Type 0} {l : Widths L} (m : Roll L l) (c : Candidate) : Type 0 where
   pub hash : c.hash ≡ key_hash c.key.now
   pub tag : m.tagged ≡ true → c.number ≡ second_hash c.key.now
+  pub whole : AreWhole l.WORD (record_in c) c.bytes.now
 
 -- its store failed; and so that a write failed; and no failure of it was counted
 abbrev pub HasStoreFailed : {S L : Type 0} {s : Ghosts S} {l : Widths L} → Maker S L s l

@@ -30,7 +30,7 @@ fn two() -> [Call<'static>; 2] {
 }
 
 /// A maker in a store that counts its calls, and fails the one after so many.
-fn fused(
+pub(super) fn fused(
     alloc: Global,
     calls: u64,
     part: u64,
@@ -196,7 +196,7 @@ fn many_records_are_written_by_one_write(rt: HostRuntime) -> Result<(), Fail> {
 }
 
 /// A maker of a record, in a store that fails the call after so many.
-fn one_record(
+pub(super) fn one_record(
     alloc: Global,
     calls: u64,
     part: u64,

@@ -1,9 +1,19 @@
-use Rattle.cdb_make.proofs.Words.{List, WordPair, ap, arith, common_steps, drop, header_pair, pair_at, take, ℕ, ◌*◌, ◌+◌, ◌∙◌, ◌≡◌}
+use Rattle.cdb_make.proofs.Words.{List, WordPair, ap, arith, common_steps, drop, header_pair, length, length-take-le, pair_at, prefix_size, subst, sym, take, ℕ, ◌*◌, ◌+◌, ◌∙◌, ◌≡◌, ◌≤◌}
 use Rattle.cdb_form.proofs.Bytes.WordLemmas.{pair_at-take, span_of}
 use Rattle.cdb_make.proofs.append.first_record.Goals as goal
 
+pub returns-clause-bytes : goal.returns-clause-bytes
+returns-clause-bytes g c =
+    let sized : c.pair_size-pair.result + c.read_header-header.result.klen + c.read_header-header.result.vlen ≡ prefix_size g.L.Width.WORD c.args.bytes.now = grind (arith, common_steps) in
+    ap (λ (n : ℕ). take n c.args.bytes.now) sized
+
 pub returns-clause-size : goal.returns-clause-size
-returns-clause-size g c = grind (arith, common_steps)
+returns-clause-size g c =
+    let sized : c.pair_size-pair.result + c.read_header-header.result.klen + c.read_header-header.result.vlen ≡ prefix_size g.L.Width.WORD c.args.bytes.now = grind (arith, common_steps) in
+    length-take-le (c.pair_size-pair.result + c.read_header-header.result.klen + c.read_header-header.result.vlen) c.args.bytes.now (subst (λ (n : ℕ). n ≤ length c.args.bytes.now) (sym sized) c.requires) ∙ sized
+
+pub slice_bounds-whole-end : goal.slice_bounds-whole-end
+slice_bounds-whole-end g c = grind (arith, common_steps)
 
 pub slice_bounds-result-end : goal.slice_bounds-result-end
 slice_bounds-result-end g c = grind (arith, common_steps)

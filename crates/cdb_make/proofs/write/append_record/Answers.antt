@@ -1,39 +1,45 @@
-use Rattle.cdb_make.proofs.Words.{AfterWrite, List, ap, arith, length, length-record_bytes, record_bytes, refl, subst, torn_wider, ℕ, ◌++◌, ◌∙◌, ◌≡◌}
-use Rattle.cdb_make.proofs.Bytes.Written.{pieces_are, on_ok_of}
-use Rattle.cdb_make.proofs.write.append_record.Goals.{After-write_parts}
+use Rattle.cdb_make.proofs.Words.{KeyValue, List, ap, arith, length, length-record_bytes, on_ok_weaker, record_size, refl, rules, subst, ℕ, ◌<◌, ◌∙◌, ◌≡◌}
+use Rattle.cdb_form.specs.Format.{record_of}
+use Rattle.cdb_make.specs.Views.Writing.{WritesBehind, WritesWithin}
+use Rattle.cdb_make.proofs.Bytes.Written.{begun_whole, on_ok_of}
 use Rattle.cdb_make.proofs.write.append_record.Goals as goal
 
--- the three parts are the record's bytes
-written : (g : _) (c : After-write_parts g) → c.write_header.new.into ++ (c.args.key.now ++ c.args.value.now) ≡ record_bytes g.L.Width.WORD (record { key = c.args.key.now; value = c.args.value.now })
-written g c = pieces_are g.L.Width.WORD (record { key = c.args.key.now; value = c.args.value.now }) (length c.args.key.now) (length c.args.value.now) c.write_header.new.into refl refl c.write_header.ensures.written
+pub returns-then-is_empty-clause-ok : goal.returns-then-is_empty-clause-ok
+returns-then-is_empty-clause-ok g c =
+    let whole = begun_whole g.L.Width.WORD c.args.key.now (length c.args.value.now) c.args.value.now refl in
+    on_ok_weaker c.begin_record.result (subst (λ (v : List ℕ). WritesBehind g.S.Store c.args.pos v c.args.store.now c.begin_record.new.store) whole) c.begin_record.ensures.ok
+
+pub write_at-requires-clause-end : goal.write_at-requires-clause-end
+write_at-requires-clause-end g c =
+    let r : KeyValue = record_of c.args.key.now c.args.value.now in
+    let there : (length c.args.bytes.now ≡ 0 → ⊥) = search (rules, c.if-is_empty.ensures, c.if-is_empty.false) in
+    let some : 0 < length c.args.bytes.now = omega arith in
+    omega (arith, ap length (c.requires.whole some), length-record_bytes g.L.Width.WORD r, c.requires.end)
 
 pub returns-clause-ok : goal.returns-clause-ok
 returns-clause-ok g c =
-    let f = c.write_parts.ensures in
-    let is = written g (goal.at.returns-clause-ok g c).After-write_parts in
-    let size = length-record_bytes g.L.Width.WORD (record { key = c.args.key.now; value = c.args.value.now }) in
-    let long = ap length is ∙ size in
-    on_ok_of c.write_parts.result (λ ok ends more. record {
-      images = subst (λ (v : List ℕ). AfterWrite c.args.pos v (g.S.Store.image c.args.store.now) (g.S.Store.image c.write_parts.new.self)) is ok;
-      size = omega (arith, long, size, ends);
-      written = omega (arith, long, size, more);
-    })
+    let f = c.write_at.ensures in
+    let there : (length c.args.bytes.now ≡ 0 → ⊥) = search (rules, c.if-is_empty.ensures, c.if-is_empty.false) in
+    let some : 0 < length c.args.bytes.now = omega arith in
+    on_ok_of c.write_at.result (λ ok ends more. subst (λ (v : List ℕ). WritesBehind g.S.Store c.args.pos v c.args.store.now c.write_at.new.self) (c.requires.whole some) (record { images = ok; size = ends; written = more }))
     f.ok f.ok_size f.ok_written
 
 pub returns-clause-within : goal.returns-clause-within
 returns-clause-within g c =
-    let f = c.write_parts.ensures in
-    let is = written g (goal.at.returns-clause-within g c).After-write_parts in
-    let long = ap length is ∙ length-record_bytes g.L.Width.WORD (record { key = c.args.key.now; value = c.args.value.now }) in
-    record {
-      torn = torn_wider c.args.pos _ _ _ _ (omega (arith, long)) f.torn;
+    let f = c.write_at.ensures in
+    let r : KeyValue = record_of c.args.key.now c.args.value.now in
+    let there : (length c.args.bytes.now ≡ 0 → ⊥) = search (rules, c.if-is_empty.ensures, c.if-is_empty.false) in
+    let some : 0 < length c.args.bytes.now = omega arith in
+    let long : length c.args.bytes.now ≡ record_size g.L.Width.WORD r = ap length (c.requires.whole some) ∙ length-record_bytes g.L.Width.WORD r in
+    subst (λ (n : ℕ). WritesWithin g.S.Store c.args.pos n c.args.store.now c.write_at.new.self c.write_at.result) long (record {
+      torn = f.torn;
       longer = f.longer;
-      not_past = omega (arith, f.not_past, long);
+      not_past = f.not_past;
       more_written = f.more_written;
-      at_most_written = omega (arith, f.at_most_written, long);
+      at_most_written = f.at_most_written;
       memory = λ refused. record { images = f.memory refused; size = f.memory_size refused; written = f.memory_written refused; room = f.memory_room refused; failures = f.memory_failures refused };
-      past_room = λ refused. omega (arith, f.past_room refused, long);
+      past_room = f.past_room;
       room = f.room;
       cause = f.cause;
       unwritten = f.unwritten;
-    }
+    })

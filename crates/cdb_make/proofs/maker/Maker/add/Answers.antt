@@ -1,53 +1,28 @@
-use Rattle.cdb_make.proofs.Words.{Mark, marks_in, AreNone, AreOf, Bool, Err, KeyValue, List, [], ap, arith, common_steps, cond, false, found_of, gone_of, head_size, inr, length, length-record_bytes, places_in, record_size, refl, searched, sought_by, subst, sym, take, ℕ, ◌*◌, ◌++◌, ◌+◌, ◌∙◌, ◌∷◌, ◌≡◌}
+use Rattle.cdb_make.proofs.Words.{Mark, marks_in, AreNone, AreOf, Bool, Err, KeyValue, List, [], ap, arith, common_steps, cond, false, found_of, gone_of, head_size, inr, length, length-record_bytes, places_in, record_size, refl, searched, sought_by, subst, sym, ℕ, ◌*◌, ◌++◌, ◌+◌, ◌∙◌, ◌∷◌, ◌≡◌}
 use Rattle.cdb_make.proofs.Bytes.Written.{on_any_err}
 use Rattle.cdb_make.proofs.Looking.{sees_same}
-use Rattle.cdb_make.proofs.Rolls.{add_fails, number_is, none_more, sees_kept, sees_added, follows_write, slots_push}
+use Rattle.cdb_make.proofs.Rolls.{number_is, none_more, sees_added, follows_write, slots_push, stays_behind, store_fails}
+use Rattle.cdb_store.proofs.Moves.{same_refl, torn_same}
 use Rattle.cdb_make.proofs.Finishing.{end_behind}
 use Rattle.cdb_make.proofs.maker.Maker.add.Goals as goal
 
 pub returns-in_err-reserve-clause-stays : goal.returns-in_err-reserve-clause-stays
 returns-in_err-reserve-clause-stays g c =
     let k = c.reserve.ensures in
-    on_any_err c.from_residual.result (record {
-      same = k.same;
-      marks = k.marks;
-      gone = k.gone;
-      found = k.found;
-      broken = refl;
-      goes = record { each = λ b is. (b, is, λ all sees. (all, sees_same c.args.self.now.roll c.reserve.new.self all b k.same sees, refl)) };
-    })
+    on_any_err c.from_residual.result (stays_behind c.args.self.now _ k.same k.marks k.gone k.found refl (omega arith) (torn_same c.args.self.now.roll.end 0 (same_refl _)))
 
 pub returns-in_err-append_record-clause-fails : goal.returns-in_err-append_record-clause-fails
 returns-in_err-append_record-clause-fails g c =
     let h = c.in_err-append_record.ensures.within in
     let e = c.from_residual-in_err-append_record.ensures in
-    add_fails c.from_residual-in_err-append_record.result c.in_err-append_record.field-0.0 _ _ _ _ _ _ _ e.1
+    store_fails _ c.from_residual-in_err-append_record.result c.in_err-append_record.field-0.0 e.1
     (λ is. let m = h.memory (ap Err is) in (m.written, m.failures, inr (let p = h.past_room (ap Err is) in omega (arith, p, c.reserve.ensures.same.end))))
     (λ is. (h.cause.failed (ap Err is), h.unwritten.failed (ap Err is)))
 
 pub returns-in_err-append_record-clause-stays : goal.returns-in_err-append_record-clause-stays
 returns-in_err-append_record-clause-stays g c =
-    let m = c.args.self.now.roll in
-    let same = c.reserve.ensures.same in
-    on_any_err c.from_residual-in_err-append_record.result (record {
-      same = same;
-      marks = c.reserve.ensures.marks;
-      gone = c.reserve.ensures.gone;
-      found = c.reserve.ensures.found;
-      broken = refl;
-      goes = record {
-        each = λ b is.
-            let h = c.append_record.ensures.within.torn.no_other b is in (
-              h.0,
-              h.1,
-              λ all sees. (
-                all,
-                sees_kept m c.reserve.new.self all h.0 b same (subst (λ (n : ℕ). take n b ≡ take n h.0) same.end h.2.before) sees,
-                refl,
-              ),
-            );
-      };
-    })
+    let k = c.reserve.ensures in
+    on_any_err c.from_residual-in_err-append_record.result (stays_behind c.args.self.now _ k.same k.marks k.gone k.found refl (omega (arith, k.same.end)) c.append_record.ensures.within.torn)
 
 pub returns-in_err-append_record-clause-follows : goal.returns-in_err-append_record-clause-follows
 returns-in_err-append_record-clause-follows g c =

@@ -1,7 +1,8 @@
 use Rattle.cdb_make.proofs.Words.{marks_in, Err, ap, arith, false, false_from_ne_true, gone_in, inr, is_gone, length, length-map, refl, sym, true, ◌+◌, ◌∙◌, ◌≡◌, cases_lt, inl, ℕ}
 use Rattle.cdb_make.proofs.Looking.{same_self, sees_long}
 use Rattle.cdb_make.proofs.Picking.{left_all_stay, both_few, both_within}
-use Rattle.cdb_make.proofs.Rolls.{follows_then, follows_room, compacting_fails, fewer_slots, room_fails}
+use Rattle.cdb_make.proofs.Rolls.{follows_then, follows_room, compacting_fails, fewer_slots, stays_behind, store_fails}
+use Rattle.cdb_store.proofs.Moves.{torn_same}
 use Rattle.cdb_make.proofs.Finishing.{fails_so, lost_counts}
 use Rattle.cdb_make.proofs.Marking.{marks_long}
 use Rattle.cdb_make.proofs.maker.Maker.compact_and_add.Goals as goal
@@ -30,20 +31,13 @@ returns-in_err-reserve-clause-steps g c =
 pub returns-in_err-reserve-clause-fails : goal.returns-in_err-reserve-clause-fails
 returns-in_err-reserve-clause-fails g c =
     let h = c.in_err-reserve.ensures in
-    room_fails c.args.self.now _ c.from_residual.result c.in_err-reserve.field-0.0 _ c.from_residual.ensures.1 (λ is. h.device (ap Err is))
-    (record {
-      stays = record {
-        same = same_self c.args.self.now.roll;
-        marks = refl;
-        gone = refl;
-        found = refl;
-        broken = refl;
-        goes = record { each = λ b is. (b, h.images.no_other b is, λ all sees. (all, sees, refl)) };
-      };
-      written = h.written;
-      fine = h.err_failures;
-    })
-    (omega (arith, h.past_room, c.kept_end.ensures, c.pair_size.ensures))
+    let m = c.args.self.now in
+    store_fails _ c.from_residual.result c.in_err-reserve.field-0.0 c.from_residual.ensures.1
+    (λ is. (
+      record { stays = stays_behind m _ (same_self m.roll) refl refl refl refl (omega arith) (torn_same m.roll.end 0 h.images); written = h.written; fine = h.err_failures },
+      omega (arith, h.past_room, c.kept_end.ensures, c.pair_size.ensures),
+    ))
+    (λ is. absurd (h.device (ap Err is)))
 
 pub returns-in-Ok-clause-steps : goal.returns-in-Ok-clause-steps
 returns-in-Ok-clause-steps g c =

@@ -26,7 +26,7 @@ enter-requires-clause-inside g c =
     let i = c.loop.invariant in
     let some : 0 < g.L.Width.WORD = omega (arith, g.met.L.Width.four_or_eight) in
     let more : c.loop.counter < length (records_at w bytes) = omega (arith, c.requires.first.few, c.loop-test.true) in
-    let is : c.first_record-first.result.size ≡ prefix_size w (drop place bytes) = c.first_record-first.ensures.size ∙ ap (prefix_size w) (rest_of place (length bytes) bytes refl) in
+    let is : length c.first_record-first.result.bytes.now ≡ prefix_size w (drop place bytes) = c.first_record-first.ensures.size ∙ ap (prefix_size w) (rest_of place (length bytes) bytes refl) in
     let within = next_within w bytes k place c.args.count (first_size w bytes c.args.count) some (λ k. omega (arith, c.type_inv.bytes k)) i.first c.requires.first c.loop-test.true in
     omega (arith, i.entered.end, i.first.sum, c.requires.inside, ap g.S.Store.size i.store)
 
@@ -40,7 +40,7 @@ enter-requires-clause-within g c =
     let i = c.loop.invariant in
     let some : 0 < g.L.Width.WORD = omega (arith, g.met.L.Width.four_or_eight) in
     let more : c.loop.counter < length (records_at w bytes) = omega (arith, c.requires.first.few, c.loop-test.true) in
-    let is : c.first_record-first.result.size ≡ prefix_size w (drop place bytes) = c.first_record-first.ensures.size ∙ ap (prefix_size w) (rest_of place (length bytes) bytes refl) in
+    let is : length c.first_record-first.result.bytes.now ≡ prefix_size w (drop place bytes) = c.first_record-first.ensures.size ∙ ap (prefix_size w) (rest_of place (length bytes) bytes refl) in
     let sums = next_sums w bytes k place some i.first (next_fits w bytes k place i.first more) in
     let le = sum_take (whole_size w) all (k + 1) c.args.count (omega (arith, c.loop-test.true)) in
     omega (arith, entered_size c.args.self.now c.loop.self (take k all) i.entered, c.requires.room, i.entered.limit)
@@ -79,8 +79,8 @@ loop-preserved g c =
     let some : 0 < g.L.Width.WORD = omega (arith, g.met.L.Width.four_or_eight) in
     let more : c.loop.counter < length (records_at w bytes) = omega (arith, c.requires.first.few, c.loop-test.true) in
     let fits : prefix_size w (drop place bytes) ≤ length (drop place bytes) = next_fits w bytes k place i.first more in
-    let is : c.first_record-first.result.size ≡ prefix_size w (drop place bytes) = c.first_record-first.ensures.size ∙ ap (prefix_size w) (rest_of place (length bytes) bytes refl) in
-    let sized : c.first_record-first.result.size ≡ record_size w r = is ∙ sym (prefix_sized w (drop place bytes) fits) in
+    let is : length c.first_record-first.result.bytes.now ≡ prefix_size w (drop place bytes) = c.first_record-first.ensures.size ∙ ap (prefix_size w) (rest_of place (length bytes) bytes refl) in
+    let sized : length c.first_record-first.result.bytes.now ≡ record_size w r = is ∙ sym (prefix_sized w (drop place bytes) fits) in
     let cut = next_splits w bytes k place some i.first fits in
     let hashed : c.hash-hash.result ≡ key_hash r.key = c.hash-hash.ensures ∙ ap key_hash (c.first_record-first.ensures.key ∙ ap (λ (v : List ℕ). (prefix_record w v).key) (rest_of place (length bytes) bytes refl)) in
     let key : c.first_record-first.result.key.now ≡ r.key = c.first_record-first.ensures.key ∙ ap (λ (v : List ℕ). (prefix_record w v).key) (rest_of place (length bytes) bytes refl) in
@@ -91,7 +91,7 @@ loop-preserved g c =
     let stored : Stored c.loop.self.roll.end (record_bytes w r) (g.S.Store.image c.loop.self.store) =
     subst (λ (v : _). Stored c.loop.self.roll.end (record_bytes w r) (g.S.Store.image v)) (sym i.store) (subst (λ (n : ℕ). Stored n (record_bytes w r) (g.S.Store.image m.store)) (sym here) was) in
     record {
-      first = first_more w bytes k place c.first_record-first.result.size some are i.first is (omega arith);
+      first = first_more w bytes k place (length c.first_record-first.result.bytes.now) some are i.first is (omega arith);
       entered = subst (λ (v : List KeyValue). Enters m c.enter.new.self v) (sym cut.1)
           (enters_more m c.loop.self c.enter.new.self (take k all) r i.entered (e.enters r (prefix_is_record w (drop place bytes) (AreBytes-drop place bytes are)) hashed numbered sized stored));
       store = c.enter.ensures.store ∙ i.store;

@@ -91,4 +91,4 @@ returns-clause-counts g c =
 pub add-requires-clause-candidate : goal.add-requires-clause-candidate
 add-requires-clause-candidate g c =
     let was = c.requires.candidate in
-    record { hash = was.hash; tag = λ tagged. was.tag (sym c.take.ensures.tagged ∙ sym c.pass.ensures.tagged ∙ tagged) }
+    record { hash = was.hash; tag = λ tagged. was.tag (sym c.take.ensures.tagged ∙ sym c.pass.ensures.tagged ∙ tagged); whole = was.whole }

@@ -1,4 +1,4 @@
-use Rattle.cdb_make.proofs.Words.{KeyValue, List, ap, arith, length, length-take-le, mul-le-mul_left, records_at, size_split, take, ℕ, ◌*◌, ◌+◌, ◌-◌, ◌/◌, ◌∙◌, ◌≡◌, ◌≤◌}
+use Rattle.cdb_make.proofs.Words.{KeyValue, List, ap, arith, length, length-take-le, mul-le-mul_left, records_at, size_split, take, ℕ, ◌*◌, ◌-◌, ◌/◌, ◌≡◌, ◌≤◌}
 use Rattle.std.proofs.Math.Nat.{div-mul-le_self}
 use Rattle.std.proofs.lemmas.Bool.{leb-true}
 use Rattle.cdb_make.proofs.maker.Maker.holds_beside.Goals as goal
