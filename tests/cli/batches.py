@@ -1,11 +1,11 @@
 #!/usr/bin/env python3
 """Runs creates whose records come in several batches, with an end, a removal, a duplicate or a record of each length
-near the border of two of them.
+near the border of two of them, or with a value that is read in pieces.
 
     tests/cli/batches.py PROGRAM
 
 A first batch has 4096 bytes, and a later one 128 KiB. A native text that is cut is refused, at its end, after the lines
-of all whole records; a cut map text makes the database of what is left. If the file has no room for what waits, that is
+of all whole records, also amid a value of many pieces; a cut map text makes the database of what is left. If the file has no room for what waits, that is
 the error, and not the end of the text. An input may come a byte at a time. The lines of the duplicates that came are
 written before the create waits for more, but for those that its 4096 bytes of lines have room for. With -v each
 duplicate is told with the line at which it begins.
@@ -22,7 +22,7 @@ import tempfile
 import termios
 import time
 
-from cases import EARLY
+from cases import EARLY, NO_RECORD
 from files import ONE_FILE, file_of, text_of
 from rows import HANGS
 from waiting import is_asleep
@@ -38,6 +38,9 @@ LINES = 4096
 # A file has no more bytes where its size is limited.
 ROOM = 10_000
 FULL = b"cdb: database cannot be read or written\n"
+# A value of more than MOST bytes is read in pieces, an input by windows.
+PIECE, WINDOW = 4096, 64 << 10
+LONG = b"".join(b"%07d\n" % it for it in range(40_000))
 
 
 def size_of(record):
@@ -168,9 +171,54 @@ def length_rows(program, folder):
                 yield name, run(program, words, text_of(records), folder), (0, b"", file_of(records))
 
 
+def long_rows(program, folder):
+    """Creates with a value that is read in pieces: once, twice, behind a record that is replaced, and removed."""
+    for length in (MOST, MOST + 1, MOST + PIECE, 3 * WINDOW + 1, len(LONG)):
+        one, other = (b"long", LONG[:length]), (b"long", LONG[-length:])
+        once = [*RECORDS[:3], one, *RECORDS[3:6]]
+        twice = [*RECORDS[:3], one, RECORDS[1], other, *RECORDS[3:6]]
+        last = [RECORDS[0], RECORDS[2], RECORDS[1], other, *RECORDS[3:6]]
+        again = b"".join(DUPLICATE % it for it in (5, 6))
+        rows = [
+            (["-c", "x"], once, once, b""), (["-cw", "x"], once, once, b""), (["-cr", "x"], once, once, b""),
+            (["-c", "x"], twice, twice, b""), (["-cw", "x"], twice, twice, again), (["-cr", "x"], twice, last, b""),
+            (["-cu", "x"], twice, once, b""), (["-cuw", "x"], twice, once, again), (["-cm", "x"], None, once, b""),
+        ]
+        for words, given, left, said in rows:
+            text = text_of(given) if given else b"".join(b"%s %s\n" % (key.replace(b" ", b"_"), value.replace(b"\n", b"n")) for key, value in once)
+            made = file_of(left) if given else file_of([(key.replace(b" ", b"_"), value.replace(b"\n", b"n")) for key, value in left])
+            yield f"{' '.join(words)} of {length} bytes", run(program, words, text, folder), (0, said, made)
+        stopped = run(program, ["-ce", "x"], text_of([*once, other]), folder)
+        yield f"-ce of {length} bytes", stopped, (111, DUPLICATE % 8 + STOPPED, ONE_FILE)
+        changes = text_of([*once, RECORDS[4]])[:-1] + b"-4:long" + b"\n" + text_of([other])
+        left = [(b"one", b"Hello"), *RECORDS[:6], RECORDS[4], other]
+        for words, made in (("-c", left), ("-cr", [*left[:5], *left[6:]])):
+            yield f"{words} of {length} bytes, removed", run(program, [words, "-b", "base", "x"], changes, folder), (0, b"", file_of(made))
+
+
+def long_cut_rows(program, folder):
+    """Creates of a text that is cut, or has another byte, amid a value that is read in pieces or behind it."""
+    text = text_of([*RECORDS[:3], (b"long", LONG), *RECORDS[3:6]])
+    start = text.index(LONG)
+    end = start + len(LONG)
+    borders = {start, end, *(start + it for it in range(PIECE, len(LONG), 16 * PIECE)), *range(WINDOW, end, 2 * WINDOW)}
+    places = {place + more for place in borders for more in (-2, -1, 0, 1, 2)} | set(range(start - 20, start))
+    for place in sorted(places):
+        ends = b"cdb: input 1: byte %d: %s\n" % (place, EARLY.encode())
+        for words in ("-c", "-cw", "-cr"):
+            yield f"{words} up to byte {place}", run(program, [words, "x"], text[:place], folder), (111, ends, ONE_FILE)
+    for place in (start - 1, end):
+        other = text[:place] + b"x" + text[place + 1 :]
+        wrong = b"cdb: input 1: byte %d: %s\n" % (place, NO_RECORD.encode())
+        for words in ("-c", "-cw", "-cr"):
+            yield f"{words} with another byte {place}", run(program, [words, "x"], other, folder), (111, wrong, ONE_FILE)
+    for words in ("-c", "-cw", "-cr"):
+        yield f"{words} of a long value without room", run(program, [words, "x"], text, folder, limited), (111, FULL, ONE_FILE)
+
+
 def slow_rows(program, folder):
     """Creates of inputs that come a byte at a time."""
-    records = RECORDS[: borders(RECORDS)[1] + 9]
+    records = [*RECORDS[: borders(RECORDS)[1] + 9], (b"long", LONG[: MOST + PIECE + 9].replace(b"\n", b"n")), (b"end", b"")]
     lines = b"".join(b"%s %s\n" % (key.replace(b" ", b"_"), value) for key, value in records)
     mapped = [(key.replace(b" ", b"_"), value) for key, value in records]
     for words, text, all_records in ((["-c", "x"], text_of(records), records), (["-cw", "x"], text_of(records), records), (["-cm", "x"], lines, mapped)):
@@ -260,7 +308,7 @@ def main():
     program = os.path.abspath(sys.argv[1])
     passed = failed = 0
     with tempfile.TemporaryDirectory() as folder:
-        for rows in (cut_rows, map_rows, removal_rows, input_rows, full_rows, length_rows, line_rows, slow_rows, told_rows):
+        for rows in (cut_rows, map_rows, removal_rows, input_rows, full_rows, length_rows, long_rows, long_cut_rows, line_rows, slow_rows, told_rows):
             for name, left, wanted in rows(program, folder):
                 passed, failed = passed + (left == wanted), failed + (left != wanted)
                 if left != wanted:

@@ -1,6 +1,6 @@
 #!/usr/bin/env python3
-"""Runs the commands that read no value on databases with one of more than 1 GB, and of nearly 4 GiB, and
-looks all keys of files of 60 MB up in little memory.
+"""Runs the commands that read no value on databases with one of more than 1 GB, and of nearly 4 GiB, looks
+all keys of files of 60 MB up in little memory, and creates a database with a value of 64 MiB in no more.
 
     tests/cli/large.py PROGRAM
 
@@ -27,6 +27,8 @@ RECORDS, LENGTH = 30_000, 2_000
 PEAK = 4 << 20
 # More than a pipe and the program's buffer hold, so that the program still waits.
 LEFT = 1 << 20
+# How many bytes the value of a create has.
+LONG = 64 << 20
 
 
 def make(path, size):
@@ -78,12 +80,17 @@ def make_many(folder):
     return {("-q", "-i", "x", "keys"): text, ("-D", "x", "y"): len(removals) + text}
 
 
+def peak_so_far(running):
+    """The peak of memory of a program that has not ended."""
+    with open(f"/proc/{running.pid}/status", encoding="ascii") as status:
+        return next(int(line.split()[1]) << 10 for line in status if line.startswith("VmHWM:"))
+
+
 def peak_of(program, given, folder, size):
     """How a command that writes so many bytes ended, how many it wrote, and its peak of memory."""
     with subprocess.Popen([program, *given], cwd=folder, stdout=subprocess.PIPE) as running:
         written = len(running.stdout.read(size - LEFT))
-        with open(f"/proc/{running.pid}/status", encoding="ascii") as status:
-            peak = next(int(line.split()[1]) << 10 for line in status if line.startswith("VmHWM:"))
+        peak = peak_so_far(running)
         written += len(running.stdout.read())
     return running.returncode, written, peak
 
@@ -95,6 +102,21 @@ def looks_within(program):
             status, written, peak = peak_of(program, given, folder, size)
             print(f"{' '.join(given)} takes {peak >> 10} KiB")
             yield (status, written) == (0, size) and peak <= PEAK
+
+
+def creates_within(program):
+    """Whether a create whose input is a pipe takes little memory for a value of many bytes."""
+    with tempfile.TemporaryDirectory() as folder:
+        with subprocess.Popen([program, "-c", "x"], cwd=folder, stdin=subprocess.PIPE) as running:
+            running.stdin.write(b"+3,%d:one->" % LONG)
+            for _ in range(LONG // LEFT):
+                running.stdin.write(bytes(LEFT))
+            running.stdin.flush()
+            peak = peak_so_far(running)
+            running.stdin.write(b"\n\n")
+        print(f"a create takes {peak >> 10} KiB")
+        made = os.path.getsize(os.path.join(folder, "x"))
+    return (running.returncode, made) == (0, 2048 + 8 + len(KEY) + LONG + 16) and peak <= PEAK
 
 
 def main():
@@ -110,7 +132,7 @@ def main():
                 passed, failed = passed + (left == wanted), failed + (left != wanted)
                 if left != wanted:
                     print(f"a value of {size} bytes, {' '.join(given)}: {left!r:.300}")
-    for held in looks_within(program):
+    for held in (*looks_within(program), creates_within(program)):
         passed, failed = passed + held, failed + (not held)
     print(f"{passed} passed, {failed} failed")
     sys.exit(1 if failed else 0)

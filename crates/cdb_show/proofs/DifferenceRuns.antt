@@ -10,7 +10,7 @@ use Rattle.cdb_read.specs.Differing.{HasDamage, IsOneDamaged, ReadingStops, Says
 use Rattle.cdb_read.proofs.WholeDifferences.{nothing_written}
 use Rattle.cdb_show.specs.Runs.Difference.{ComesAfter, DifferenceFails, DifferenceLacks, DifferenceNotRead, DifferenceOutside, HaveHeads, HaveTables, HaveTablesInside, TellsDifference, difference_state, difference_task}
 use Rattle.cdb_show.specs.Views.Fault.{old_fault, new_fault, stop_fault}
-use Rattle.cdb_show.specs.declared.fault.Fault.TheVariants.{Text, Make, Duplicate, Missing, Read, Walk, Output, Long, Open, Rename, NoMemory, Old, New, NoOldTables, NoNewTables, NoBaseTables}
+use Rattle.cdb_show.specs.declared.fault.Fault.TheVariants.{Output, NoMemory, Old, New, NoOldTables, NoNewTables, NoBaseTables}
 use Rattle.cdb_read.specs.declared.difference.stop.Stop.{Stop}
 use Rattle.cdb_read.specs.declared.difference.stop.Stop.TheVariants.{Own, Other}
 use Rattle.cdb_show.proofs.Openings.{opening_reads, unopened_by}

@@ -8,7 +8,7 @@ use Rattle.cdb_show.specs.Runs.InputTask.{DoesAll, DoesEach, Progress, StopsAmid
 use Rattle.cdb_show.specs.Runs.Lookups.{LookupsFail, LookupsLeave, StopsInNext}
 use Rattle.cdb_show.specs.Views.Noted.{AreReadTo}
 use Rattle.cdb_show.specs.Views.LookUps.{Looks, StopsLooking, lookup_work}
-use Rattle.cdb_show.specs.declared.fault.Fault.TheVariants.{Text, Make, Duplicate, Missing, Read, Walk, Output, Long, Open, Rename, NoMemory, Old, New, NoOldTables, NoNewTables, NoBaseTables}
+use Rattle.cdb_show.specs.declared.fault.Fault.TheVariants.{Text, Missing, Read, Output}
 use Rattle.cdb_show.specs.declared.inputs.SharedWindow.TheVariants.{Unread}
 use Rattle.cdb_show.specs.declared.runs.lookups.Looking.{Looking}
 use Rattle.cdb_show.proofs.InputTurns.{fault_weaker}

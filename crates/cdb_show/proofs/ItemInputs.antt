@@ -1,21 +1,23 @@
 -- What a reader took of the items of an input, whatever its form and whatever bytes agree with it.
-use Rattle.cdb_show.proofs.Words.{BeginsWithItems, Bool, Feed, FromTo, HasFaults, HasInputFault, HasItemFault, InputsBeginWith, IsInput, IsInputOf, IsOfText, KeyValue, List, Puts, Spells, TextFault, [], false, from_weaker, length, map, refl, true, ℕ, ◌++◌, ◌+◌, ◌<◌, ◌∙◌, ◌∷◌, ◌≡◌, ◌≢◌, ◌≤◌}
+use Rattle.cdb_show.proofs.Words.{BeginsWithItems, Bool, Err, Feed, FromTo, HasFaults, HasInputFault, HasItemFault, IfErr, InputsBeginWith, IsInput, IsInputOf, IsOfText, KeyValue, List, MapReader, Ok, OnOk, Puts, Result, Spells, TextFault, [], false, from_weaker, length, map, refl, true, ℕ, ◌++◌, ◌+◌, ◌<◌, ◌∙◌, ◌∷◌, ◌≡◌, ◌≢◌, ◌≤◌}
 use Rattle.cdb_form.specs.Views.FormReader as fed
+use Rattle.cdb_form.specs.Views.LongValue as long
 use Rattle.cdb_form.specs.Views.Fill.{Fills}
 use Rattle.cdb_form.specs.Text.Parse.{Change, Putting, SpellsChange}
 use Rattle.cdb_form.specs.declared.text.fill.Filled.{Filled}
 use Rattle.cdb_form.specs.declared.text.fault.TextFault.TheVariants.{Input, NoMemory}
 use Rattle.cdb_form.specs.declared.text.form_reader.FormReader.{FormReader}
 use Rattle.cdb_form.proofs.Filling.{fills_as}
+use Rattle.cdb_form.proofs.NativeTexts.FormReads.{put_gives}
 use Rattle.cdb_form.proofs.NativeTexts.Spelling.{changes, records}
 use Rattle.cdb_form.proofs.NativeTexts.TextLaws.{spelled_puts}
 use Rattle.cdb_command.specs.declared.style.Style.TheVariants as style
-use Rattle.cdb_show.specs.Views.ItemReader.{Fails, GivesEnd, GivesItem, GivesPuts, IsNew, asks_left, form_of, reader_of}
+use Rattle.cdb_show.specs.Views.ItemReader.{AmidValue, Fails, GivesEnd, GivesItem, GivesPuts, IsNew, asks_left, form_of, reader_of}
 use Rattle.cdb_show.specs.declared.runs.item_reader.ItemReader.{ItemReader}
 use Rattle.cdb_show.specs.declared.runs.item_reader.ItemReader.TheVariants.{Form, Map}
 use Rattle.cdb_show.proofs.KeyInputs.{more_puts}
 use Rattle.cdb_show.proofs.MapInputs.{GaveLines, lines_all, lines_begin, lines_behind, lines_each, lines_fault, lines_more, lines_none, lines_own, lines_told}
-use Rattle.cdb_show.proofs.SpelledInputs.{GaveSpelled, spelled_all, spelled_begins, spelled_behind, spelled_each, spelled_fault, spelled_more, spelled_none}
+use Rattle.cdb_show.proofs.SpelledInputs.{GaveSpelled, spelled_all, spelled_begins, spelled_behind, spelled_each, spelled_fault, spelled_more, spelled_none, spelled_past}
 
 -- ---- the records that a buffer is filled with
 
@@ -26,6 +28,56 @@ puts_of g feed false t u rs h = h
 pub form_fills : {F L : Type 0} (g : ℕ) (feed : F → Feed) (removals : Bool) (old : ItemReader F L) (t u : FormReader F L) (w top : ℕ) (into filled : List ℕ) (from : ℕ) (f : Filled) → old ≡ Form t removals → Fills (fed.GivesItems Spells g feed t u) w top into filled from f
     → Fills (GivesPuts g feed old (Form u removals)) w top into filled from f
 form_fills g feed removals old t u w top into filled from f e fills = rw e (fills_as _ (GivesPuts g feed (Form t removals) (Form u removals)) w top into filled from f fills (puts_of g feed removals t u fills.records fills.come))
+
+-- ---- what a reader of a text of either form answered
+
+-- the text is of either form, as it was when its reader was the first one
+pub record AmidForm {F L : Type 0} (g : ℕ) (feed : F → Feed) (removals : Bool) (first : ItemReader F L) (now : FormReader F L) (key : List ℕ) (vlen : ℕ) (got : List ℕ) : Type 0 where
+  pub text : FormReader F L
+  pub is : first ≡ Form text removals
+  pub amid : long.AmidValue g feed text now key vlen got
+
+module _ {F L : Type 0} (g : ℕ) (feed : F → Feed) where
+  fails_in : (removals : Bool) (t u : FormReader F L) (f : TextFault) → fed.FailsAs removals g feed t u f → Fails g feed (Form t removals) (Form u removals) f
+  fails_in true t u f h = h
+  fails_in false t u f h = h
+
+  pub form_fails : {X : Type 0} (removals : Bool) (old : ItemReader F L) (t u : FormReader F L) (result : Result X TextFault) → old ≡ Form t removals → IfErr result (fed.FailsAs removals g feed t u) → IfErr result (Fails g feed old (Form u removals))
+  form_fails removals old t u (Ok x) e h = tt
+  form_fails removals old t u (Err fault) e h = rw e (fails_in removals t u fault h)
+
+  put_in : (removals : Bool) (t u : FormReader F L) (r : KeyValue) → fed.GivesItem SpellsChange g feed t u (Putting r) → GivesItem g feed (Form t removals) (Form u removals) (Putting r)
+  put_in true t u r h = h
+  put_in false t u r h = put_gives g feed t u r h
+
+  pub form_puts : {X : Type 0} (removals : Bool) (old : ItemReader F L) (t u : FormReader F L) (result : Result X TextFault) (r : KeyValue) → old ≡ Form t removals → OnOk result (fed.GivesItem SpellsChange g feed t u (Putting r)) → OnOk result (GivesItem g feed old (Form u removals) (Putting r))
+  form_puts removals old t u (Ok x) r e h = rw e (put_in removals t u r h)
+  form_puts removals old t u (Err fault) r e h = tt
+
+  amid_as : (removals : Bool) (t u : FormReader F L) (key : List ℕ) (vlen : ℕ) (got : List ℕ) → long.AmidValue g feed t u key vlen got → AmidValue g feed (Form t removals) (Form u removals) key vlen got
+  amid_as true t u key vlen got h = h
+  amid_as false t u key vlen got h = h
+
+  pub form_amid : (removals : Bool) (first : ItemReader F L) (t u : FormReader F L) (key : List ℕ) (vlen : ℕ) (got : List ℕ) → first ≡ Form t removals → long.AmidValue g feed t u key vlen got → AmidValue g feed first (Form u removals) key vlen got
+  form_amid removals first t u key vlen got e h = rw e (amid_as removals t u key vlen got h)
+
+  -- ---- a value is left of a text of either form, and of no map text
+
+  amid_in : (removals : Bool) (first : ItemReader F L) (t : FormReader F L) (key : List ℕ) (vlen : ℕ) (got : List ℕ) → AmidValue g feed first (Form t removals) key vlen got → AmidForm g feed removals first t key vlen got
+  amid_in true (Form s true) t key vlen got h = record { text = s; is = refl; amid = h }
+  amid_in false (Form s false) t key vlen got h = record { text = s; is = refl; amid = h }
+  amid_in removals first t key vlen got h = absurd h
+
+  pub amid_form : (removals : Bool) (first now : ItemReader F L) (t : FormReader F L) (key : List ℕ) (vlen : ℕ) (got : List ℕ) → now ≡ Form t removals → AmidValue g feed first now key vlen got → AmidForm g feed removals first t key vlen got
+  amid_form removals first now t key vlen got e h = amid_in removals first t key vlen got (rw e at h)
+
+  not_in_map : (first : ItemReader F L) (t : MapReader F) (key : List ℕ) (vlen : ℕ) (got : List ℕ) → AmidValue g feed first (Map t) key vlen got → ⊥
+  not_in_map (Form s true) t key vlen got h = h
+  not_in_map (Form s false) t key vlen got h = h
+  not_in_map (Map s) t key vlen got h = h
+
+  pub amid_no_map : (first now : ItemReader F L) (t : MapReader F) (key : List ℕ) (vlen : ℕ) (got : List ℕ) → now ≡ Map t → AmidValue g feed first now key vlen got → ⊥
+  amid_no_map first now t key vlen got e h = not_in_map first t key vlen got (rw e at h)
 
 -- ---- the items so far
 
@@ -78,6 +130,15 @@ module _ {F L : Type 0} (g : ℕ) (feed : F → Feed) where
   puts_form (Form t false) (Form u false) rs m = refl
   puts_form (Map t) (Map u) rs m = refl
   puts_form t u rs m = absurd m
+
+  -- ---- a value that is left
+
+  -- it still begins with these items, whatever was read of a value after them
+  pub items_amid : (start : Feed) (t u : ItemReader F L) (items : List Change) (key : List ℕ) (vlen : ℕ) (got : List ℕ) → GaveItems g feed start t items → AmidValue g feed t u key vlen got → FromTo start (feed (reader_of u)) (λ text rest. BeginsWithItems (form_of t) g items text)
+  items_amid start (Form t true) (Form u true) items key vlen got h m = spelled_past SpellsChange g feed start t.source u.source items (m.front ++ got) h.1 m.read
+  items_amid start (Form t false) (Form u false) items key vlen got h m =
+      from_weaker start (feed u.source.reader) (λ text rest. InputsBeginWith style.Native g h.0 text) (λ text rest. BeginsWithItems (Puts style.Native) g items text) (spelled_past Spells g feed start t.source u.source h.0 (m.front ++ got) h.3 m.read) (λ text rest is. (h.0, h.1, is))
+  items_amid start t u items key vlen got h m = absurd m
 
   -- ---- the end, and how far it is
 

@@ -1,7 +1,7 @@
 -- A query of the keys that some inputs give comes to what the function of their bytes says, or to a
 -- refusal: of any bytes that agree with the readers of the inputs as they came back.
-use Rattle.std.proofs.Common.{◌≡◌, ◌≢◌, ◌⊎◌, ◌+◌, ◌<◌, ◌≤◌, true, false, Bool, ℕ, inl, inr, List, [], ◌∷◌, ◌++◌, length, fold, refl, sym, ap, subst, ◌∙◌, arith, append_assoc, append-nil, Option, Some, None, Result, Ok, Err, if◌then◌else◌}
-use Rattle.cdb_show.proofs.Words.{Appends, AppendsPrefix, Change, Fault, Feed, Ghosts, Given, HasLooked, InputForm, Inputs, IsOfText, Keeps, LookupOptions, LookupTask, LookupsStopAt, SharedWindow, Style, TextFault, end_of, fault_in, flat_map-append, given_from, head_size, keys_form, keys_of, keys_of_each, key_of, lookup_state, LookupState, map-append, missing_answer, prefix_in, shared_feed, stop_of, stopped_parsing, ⊤}
+use Rattle.std.proofs.Common.{◌≡◌, ◌≢◌, ◌⊎◌, ◌+◌, ◌≤◌, true, false, Bool, ℕ, inl, inr, List, [], ◌∷◌, ◌++◌, length, fold, refl, sym, ap, subst, ◌∙◌, arith, append_assoc, append-nil, Option, Some, None, Result, Ok, Err, if◌then◌else◌}
+use Rattle.cdb_show.proofs.Words.{Appends, AppendsPrefix, Change, Fault, Feed, Ghosts, Given, HasLooked, Inputs, Keeps, LookupOptions, LookupTask, LookupsStopAt, SharedWindow, Style, TextFault, end_of, fault_in, flat_map-append, given_from, head_size, keys_form, keys_of, keys_of_each, key_of, lookup_state, LookupState, map-append, missing_answer, prefix_in, shared_feed, stop_of, stopped_parsing, ⊤}
 use Rattle.std.proofs.lemmas.Bool.{cond-true, cond-false}
 use Rattle.std.proofs.lemmas.List.Sums.{fold-append}
 use Rattle.std.proofs.KnownBytes.{Appends-kept, Keeps-trans}
@@ -13,11 +13,11 @@ use Rattle.cdb_form.specs.Views.Feed.{reader_feed}
 use Rattle.cdb_form.specs.declared.text.fault.TextFault.TheVariants as text
 use Rattle.cdb_read.specs.declared.fault.ReadFault.TheVariants as read_fault
 use Rattle.cdb_show.specs.Runs.Flushed.{FlushedWhole, IsWhole}
-use Rattle.cdb_show.specs.Runs.Lookups.{Looked, has_ended, looked_up, records_asked, with_end, with_given, with_key, IsUnopened, LookupsFail, LookupsLeave, LooksUp, LooksUpRead, StopsInNext}
-use Rattle.cdb_show.specs.Runs.Parsing.{IsFaultOf, input_parsing}
+use Rattle.cdb_show.specs.Runs.Lookups.{Looked, has_ended, looked_up, records_asked, with_end, with_given, with_key, LookupsFail, LooksUp, LooksUpRead, StopsInNext}
+use Rattle.cdb_show.specs.Runs.Parsing.{IsFaultOf}
 use Rattle.cdb_show.specs.Runs.Query.{IsShortForQuery}
 use Rattle.cdb_show.specs.Views.Noted.{held_of, reader_of}
-use Rattle.cdb_show.specs.declared.fault.Fault.TheVariants.{Text, Make, Duplicate, Missing, Read, Walk, Output, Long, Open, Rename, NoMemory, Old, New, NoOldTables, NoNewTables, NoBaseTables}
+use Rattle.cdb_show.specs.declared.fault.Fault.TheVariants.{Text, Missing, Read, Output, NoMemory}
 use Rattle.cdb_show.specs.declared.inputs.SharedWindow.TheVariants.{InHand, Unread}
 use Rattle.cdb_show.proofs.GivenInputs.{same_given, said}
 use Rattle.cdb_show.proofs.KnownInputs.{known_inputs}

@@ -7,7 +7,7 @@ use Rattle.cdb_show.specs.Runs.Lookups.{key_query, Looked, joined, looked_up, wi
 use Rattle.cdb_show.specs.Runs.Parsing.{IsOfRun}
 use Rattle.cdb_show.specs.Views.Fault.{text_fault}
 use Rattle.cdb_show.specs.Views.KeyReader as views
-use Rattle.cdb_show.specs.declared.fault.Fault.TheVariants.{Text, Make, Duplicate, Missing, Read, Walk, Output, Long, Open, Rename, NoMemory, Old, New, NoOldTables, NoNewTables, NoBaseTables}
+use Rattle.cdb_show.specs.declared.fault.Fault.TheVariants.{Text, Missing, Read, Walk, Output, Open, Rename, NoMemory, Old, New}
 use Rattle.cdb_show.proofs.KeyInputs.{GaveKeys, keys_fault, keys_own, keys_still, keys_told}
 
 -- ---- one key more

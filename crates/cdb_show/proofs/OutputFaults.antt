@@ -1,5 +1,5 @@
 -- A fault that says that an output has failed.
-use Rattle.cdb_show.proofs.Words.{Err, Fault, Ok, Result}
+use Rattle.cdb_show.proofs.Words.{Err, Fault, Result}
 use Rattle.cdb_show.specs.Views.Output.{OutputSays}
 use Rattle.cdb_show.specs.declared.fault.Fault.TheVariants.{Output}
 

@@ -13,7 +13,7 @@ use Rattle.cdb_read.specs.declared.lookup.finder.Finder.{Finder}
 use Rattle.cdb_read.specs.declared.span.Span.{Span}
 use Rattle.cdb_read.proofs.FoundSoFar.{FoundSoFar, ending, found_more, found_still}
 use Rattle.cdb_show.specs.Runs.Query.{Query, asked_of, value_text, values_text, spans_text, query_text, has_asked, why_missing, found_answer, query_answer, QueryAnswers, WritesQueryPrefix, QueryFails, Queries, WritesAllValues, in_hand, WritesSome, WritesEach, LeftFails}
-use Rattle.cdb_show.specs.declared.fault.Fault.TheVariants.{Text, Make, Duplicate, Missing, Read, Walk, Output, Long, Open, Rename, NoMemory, Old, New, NoOldTables, NoNewTables, NoBaseTables}
+use Rattle.cdb_show.specs.declared.fault.Fault.TheVariants.{Missing, Read, Output}
 
 -- ---- what is written
 

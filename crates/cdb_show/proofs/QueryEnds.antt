@@ -1,7 +1,7 @@
 -- How a query ends: with a store that was not opened, or with the flush.
 use Rattle.cdb_show.proofs.Words.{Err, Fault, Flushed, Ghosts, IsOk, Keeps, List, Ok, OnlyReads, OpeningFails, Option, Queries, Query, QueryAnswers, QueryFails, ReadFault, Result, WritesQueryPrefix, appends_kept, appends_none, inl, inr, query_text, read_fault, reads_none, subst, sym, ℕ}
 use Rattle.cdb_read.specs.declared.fault.ReadFault.TheVariants as read
-use Rattle.cdb_show.specs.declared.fault.Fault.TheVariants.{Text, Make, Duplicate, Missing, Read, Walk, Output, Long, Open, Rename, NoMemory, Old, New, NoOldTables, NoNewTables, NoBaseTables}
+use Rattle.cdb_show.specs.declared.fault.Fault.TheVariants.{Missing, Read, Output}
 use Rattle.cdb_show.proofs.Openings.{unopened_by}
 use Rattle.cdb_show.proofs.Queries.{none_prefix}
 use Rattle.cdb_show.proofs.Writers.{keeps_self, keeps_then, prefix_kept, whole_prefix, not_ok}

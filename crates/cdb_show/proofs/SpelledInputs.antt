@@ -86,6 +86,10 @@ module _ {R X : Type 0} (S : ℕ → List ℕ → X → Type 0) (g : ℕ) (feed 
       (from_both mid new (λ text rest. IsFaultOf S g s.taken t.taken text f) (λ text rest. text ≡ bytes ++ rest) one m.of (from_taken mid new bytes (λ text rest. text ≡ bytes ++ rest) m.took.read (λ rest. refl))))
       (λ text rest so. fault_at spelling s t xs f bytes text so.0 rest so.1 h.1 so.2.0 so.2.1 m.took.counted m.told.spent m.spends)
 
+  -- it still begins with these items, whatever was taken after them
+  pub spelled_past : (start : Feed) (s t : Source R) (xs : List X) (bytes : List ℕ) → GaveSpelled S g feed start s xs → Consumes (feed s.reader) (feed t.reader) bytes → FromTo start (feed t.reader) (λ text rest. (more : List ℕ) × Spelled S g xs text more)
+  spelled_past start s t xs bytes h taken =
+      from_lost start (feed s.reader) (feed t.reader) (λ text rest. SoFar S g text rest s.taken xs) (λ text. (more : List ℕ) × Spelled S g xs text more) bytes h.0 taken (λ text rest so. (rest, so.0))
+
   pub spelled_behind : (start : Feed) (s t : Source R) (xs : List X) (f : TextFault) → GaveSpelled S g feed start s xs → MeetsFault S g feed s t f → FromTo start (feed t.reader) (λ text rest. (more : List ℕ) × Spelled S g xs text more)
-  spelled_behind start s t xs f h m =
-      from_lost start (feed s.reader) (feed t.reader) (λ text rest. SoFar S g text rest s.taken xs) (λ text. (more : List ℕ) × Spelled S g xs text more) m.took.bytes h.0 m.took.read (λ text rest so. (rest, so.0))
+  spelled_behind start s t xs f h m = spelled_past start s t xs m.took.bytes h m.took.read

@@ -8,7 +8,7 @@ use Rattle.cdb_show.specs.Views.Fault.{walk_fault}
 use Rattle.cdb_show.specs.Runs.WalkText.{Form, IsHeld, closing, walk_text, WritesToDamage, WritesTextPrefix, WritesFirst, WritingFails, WritesWalk, KeepsBehind}
 use Rattle.cdb_show.specs.declared.runs.content.Content.{Content}
 use Rattle.cdb_show.specs.declared.runs.content.Content.TheVariants.{Records, Keys}
-use Rattle.cdb_show.specs.declared.fault.Fault.TheVariants.{Text, Make, Duplicate, Missing, Read, Walk, Output, Long, Open, Rename, NoMemory, Old, New, NoOldTables, NoNewTables, NoBaseTables}
+use Rattle.cdb_show.specs.declared.fault.Fault.TheVariants.{Walk, Output, NoMemory}
 use Rattle.cdb_show.proofs.Writers.{prefix_kept, whole_prefix, not_ok}
 use Rattle.cdb_show.proofs.WalksSoFar.{walked, GaveSoFar, GaveFirst, gave_none, gave_more, gave_all, gave_before, gave_failed, gave_first, ReadSoFar, read_none, read_more, read_all}
 

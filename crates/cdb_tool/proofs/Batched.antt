@@ -1,7 +1,7 @@
 -- The records that wait in a batch, as a file has them.
 use Rattle.std.proofs.Common.{◌≡◌, ◌++◌, ◌∷◌, ◌∙◌, ◌+◌, ◌<◌, ◌≤◌, ℕ, List, [], ap, arith, drop, flat_map, length, length-append, subst, sym, take}
 use Rattle.std.specs.Prelude.{All, ◌^◌, sum_by}
-use Rattle.std.proofs.lemmas.List.{drop-drop, length-take-le}
+use Rattle.std.proofs.lemmas.List.{drop-drop, length-take-le, take_at}
 use Rattle.std.proofs.lemmas.List.Concat.{flat_map-append}
 use Rattle.std.proofs.lemmas.List.Elements.{All-append}
 use Rattle.std.proofs.lemmas.List.Sums.{sum_by-cons}
@@ -9,7 +9,7 @@ use Rattle.cdb_form.specs.Format.{IsRecord, KeyValue, prefix_record, prefix_size
 unfoldable use Rattle.cdb_form.specs.Format.{record_bytes}
 use Rattle.cdb_form.specs.Laws.Text.{LengthsFit}
 use Rattle.cdb_form.proofs.Files.Prefixes.{Begins, prefix_reads}
-use Rattle.cdb_form.proofs.Files.Sizes.{length-records}
+use Rattle.cdb_form.proofs.Files.Sizes.{length-record_bytes, length-records}
 use Rattle.cdb_form.proofs.Files.Standing.{Begins-record_bytes}
 use Rattle.cdb_tool.specs.Runs.Batches.{HoldsBatch}
 use Rattle.cdb_tool.specs.declared.runs.batch.Batch.{Batch}
@@ -44,6 +44,7 @@ pub record NextIs (w place : ℕ) (bytes : List ℕ) (r : KeyValue) (rest : List
   pub is : prefix_record w (drop place bytes) ≡ r
   pub size : prefix_size w (drop place bytes) ≡ record_size w r
   pub fits : prefix_size w (drop place bytes) ≤ length (drop place bytes)
+  pub own : take (prefix_size w (drop place bytes)) (drop place bytes) ≡ record_bytes w r
   pub rest_is : drop (place + record_size w r) bytes ≡ rest
 
 pub batch_next : (w top place : ℕ) (bytes : List ℕ) (r : KeyValue) (rest : List ℕ) → top + 1 ≡ 256 ^ w → LengthsFit top r → drop place bytes ≡ record_bytes w r ++ rest → NextIs w place bytes r rest
@@ -54,5 +55,6 @@ batch_next w top place bytes r rest top_is fit are =
       is = reads.is;
       size = reads.size;
       fits = omega (arith, reads.size, reads.long);
+      own = ap (take (prefix_size w (drop place bytes))) are ∙ take_at (record_bytes w r) rest (prefix_size w (drop place bytes)) (length-record_bytes w r ∙ sym reads.size);
       rest_is = sym (drop-drop (record_size w r) place bytes) ∙ reads.rest_is;
     }

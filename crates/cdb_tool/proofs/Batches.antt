@@ -1,6 +1,6 @@
 -- Records that are added at once, and a run that comes to them.
 use Rattle.cdb_tool.proofs.Words.{Change, ComesFrom, Course, Err, Fault, Ghosts, Holds, InCourse, Incoming, KeyValue, List, MakeFault, Maker, None, Ok, Option, Putting, Result, RunOptions, Task, TellsEach, WhereHonest, [], ap, append-nil, append_assoc, arith, came, course_of, ends, file_size, fits, holds_fits, inl, inr, le-leb, length, length-append, limit_of, make_fault, map, mode_of, put_answer, put_list, progress, refl, subst, sym, true, true≢false, ℕ, ◌++◌, ◌+◌, ◌<◌, ◌∙◌, ◌∷◌, ◌≡◌, ◌≤◌, ◌⊎◌}
-use Rattle.std.proofs.Common.{Bool, drop, false, flat_map, ◌&&◌, ◌||◌}
+use Rattle.std.proofs.Common.{Bool, drop, false, flat_map, take, ◌&&◌, ◌||◌}
 use Rattle.std.specs.Prelude.{All, IfErr, OnOk, ◌^◌}
 use Rattle.std.proofs.lemmas.List.{drop_at, length-drop, length-map, map-append}
 use Rattle.std.proofs.lemmas.List.Elements.{All-drop, All-head}
@@ -31,7 +31,7 @@ and_false true = refl
 and_false false = refl
 
 -- nothing is reported of a record that was added
-added_told : (o : MakeOptions) (i n : ℕ) (key : List ℕ) → told o i n key (Ok Added) ≡ []
+pub added_told : (o : MakeOptions) (i n : ℕ) (key : List ℕ) → told o i n key (Ok Added) ≡ []
 added_told o i n key = rw (and_false (o.warn || o.stop)) refl
 
 -- a course with more records
@@ -110,13 +110,13 @@ module _ {S L : Type 0} {s : Ghosts S} {l : Widths L} (t : Task) (read : List (L
         (full_so {l = l} t (came read front) (length read + 1) (length front + 1) some.next start now old goes h.limit (omega (arith, large, ap (file_size l.WORD) held)));
   }
 
-  -- it comes no further if nothing is added
-  stays_there : StaysWhole old new → InCourse t (came read before) start now new
-  stays_there stays = record {
-    holds = stays.holds (course_of l.WORD t (came read before)).records h.holds;
-    limit = limit ∙ h.limit;
-    goes = record { each = λ b is. let a = comes.each b is in h.goes.each a.0 a.1 };
-  }
+-- it comes no further if nothing is added
+pub stays_there : {S L : Type 0} {s : Ghosts S} {l : Widths L} (t : Task) (cs : List Incoming) (start now : Option (List ℕ)) (old new : Maker S L s l) → InCourse t cs start now old → ComesFrom (s.image old.store) (s.image new.store) → limit_of new ≡ limit_of old → StaysWhole old new → InCourse t cs start now new
+stays_there {l = l} t cs start now old new h comes limit stays = record {
+  holds = stays.holds (course_of l.WORD t cs).records h.holds;
+  limit = limit ∙ h.limit;
+  goes = record { each = λ b is. let a = comes.each b is in h.goes.each a.0 a.1 };
+}
 
 -- the items, parted where they were added
 parted : (items done : List Change) (waiting first later : List KeyValue) (next : KeyValue) → items ≡ done ++ map Putting waiting → waiting ≡ first ++ next ∷ later
@@ -171,7 +171,7 @@ module _ {S L : Type 0} {s : Ghosts S} {l : Widths L} (o : RunOptions) (input : 
     later = map Putting amid.waiting;
     are = amid.are;
     stops = λ t read start same i h.
-        let at = stays_there t read amid.done start now old new (mode_in t same) wide (amid.puts t read start same i h) comes limit x.2 in
+        let at = stays_there t (came read amid.done) start now old new (amid.puts t read start same i h) comes limit x.2 in
         record { stops = at.goes; stands = λ is. course_stands t (came read amid.done) start now new at };
   }
   appended_stops rs make.Writing is (inr x) = record {
@@ -344,6 +344,11 @@ module _ {S L : Type 0} {s : Ghosts S} {l : Widths L} (o : RunOptions) (input : 
 
     put_is : (next : NextLeft l.WORD l.TOP place bytes so.left) → put ≡ next.next
     put_is next = same_record put next.next (key_is ∙ ap (λ r. r.key) next.reads.is) (value_is ∙ ap (λ r. r.value) next.reads.is)
+
+    pub put_bytes : (own : List ℕ) → own ≡ take (prefix_size l.WORD (drop place bytes)) (drop place bytes) → own ≡ record_bytes l.WORD put
+    put_bytes own own_is =
+        let next = put_next index place mid so few in
+        own_is ∙ next.reads.own ∙ ap (record_bytes l.WORD) (sym (put_is next))
 
     front_count : (before : List Change) → batch.done ≡ length before → n ≡ length (before ++ map Putting so.done) + 1
     front_count before done = omega (arith, number, done, so.number, length-append before (map Putting so.done), length-map so.done Putting)

@@ -9,7 +9,7 @@ use Rattle.cdb_form.specs.declared.mode.Mode.{Mode}
 use Rattle.cdb_make.specs.declared.answer.Put.TheVariants.{Present}
 use Rattle.cdb_make.proofs.Callers.{holds_count, holds_fits}
 use Rattle.cdb_make.proofs.Finishing.{rests_nothing}
-use Rattle.cdb_tool.specs.Runs.Make.{Task, Course, mode_of, put_at, told, ends, is_going, with_put, with_change, with_next, at_start, course_of, TellFails, Goes, StopsSo, DoesItem, InCourse, PutStops, IsOfStore, MakeStandsAt, IsHalt, TakesNext}
+use Rattle.cdb_tool.specs.Runs.Make.{Task, Course, mode_of, put_at, told, ends, is_going, with_put, with_change, with_next, at_start, course_of, TellFails, Goes, StopsSo, DoesItem, InCourse, PutStops, IsOfStore, MakeStandsAt, IsHalt, StoppedAt, TakesNext}
 use Rattle.cdb_show.specs.declared.fault.Fault.TheVariants.{Text, Make, Duplicate, Missing, Read, Walk, Output, Long, Open, Rename, NoMemory, Old, New, NoOldTables, NoNewTables, NoBaseTables}
 use Rattle.cdb_tool.proofs.ToldLines.{part_then, tells_none, tells_then}
 
@@ -166,7 +166,7 @@ stands_so {l = l} t cs start mid old new h comes count holds = record {
   goes = record { each = λ b is. let a = comes.each b is in h.goes.each a.0 a.1 };
 }
 
-stands_whole : {S L : Type 0} {s : Ghosts S} {l : Widths L} (t : Task) (cs : List Incoming) (start mid : Option (List ℕ)) (old new : Maker S L s l) → InCourse t cs start mid old → ComesFrom (s.image old.store) (s.image new.store) → told_count new ≡ told_count old → StaysWhole old new
+pub stands_whole : {S L : Type 0} {s : Ghosts S} {l : Widths L} (t : Task) (cs : List Incoming) (start mid : Option (List ℕ)) (old new : Maker S L s l) → InCourse t cs start mid old → ComesFrom (s.image old.store) (s.image new.store) → told_count new ≡ told_count old → StaysWhole old new
     → MakeStandsAt t cs start mid new
 stands_whole {l = l} t cs start mid old new h comes count stays = stands_so t cs start mid old new h comes count (λ usable. stays.holds (course_of l.WORD t cs).records h.holds)
 
@@ -193,6 +193,13 @@ removal_halted t cs key start now old new make.Lookup h x comes count is = stand
 removal_halted t cs key start now old new make.NoMemory h x comes count is = absurd x
 removal_halted t cs key start now old new make.Writing h x comes count is = stands_broken t cs start now old new h comes count x.broken
 removal_halted t cs key start now old new f h x comes count is = absurd is
+
+-- a run that was halted stopped there
+pub halted : {S L : Type 0} {s : Ghosts S} {l : Widths L} (t : Task) (cs : List Incoming) (start now : Option (List ℕ)) (m : Maker S L s l) (f : Fault) → IsHalt f → MakeStandsAt t cs start now m → StoppedAt t cs start now m f
+halted t cs start now m (Make make.Lookup) is h = record { stops = h.goes; stands = λ is. h }
+halted t cs start now m (Make make.Writing) is h = record { stops = h.goes; stands = λ is. h }
+halted t cs start now m NoMemory is h = record { stops = h.goes; stands = λ is. h }
+halted t cs start now m f is h = absurd is
 
 -- what a teller answers does not halt a run
 told_halts : (o : RunOptions) (i j : ℕ) (key : List ℕ) (put : Put) (old new : Option (List ℕ)) (f : Fault) → TellFails o (put_at i j key) put old new f → IsHalt f → ⊥

@@ -1,5 +1,5 @@
 -- An input whose records wait in batches, up to its end or to what stops the run.
-use Rattle.cdb_tool.proofs.Words.{BeginsWithItems, Change, Err, Fault, Feed, FromTo, GaveItems, Ghosts, IsInputOf, InputForm, List, Maker, Ok, Putting, Result, RunOptions, TextFault, [], append-nil, arith, follows_same, follows_then, form_of, length, length-append, map, reader_of, refl, subst, sym, ℕ, ⊤, ◌++◌, ◌+◌, ◌^◌, ◌∙◌, ◌∷◌, ◌≡◌, ◌≤◌}
+use Rattle.cdb_tool.proofs.Words.{BeginsWithItems, Change, Err, Fault, Feed, FromTo, GaveItems, Ghosts, IsInputOf, InputForm, List, Maker, Ok, Putting, Result, RunOptions, TextFault, [], append-nil, arith, came, follows_same, follows_then, form_of, inl, inr, length, length-append, map, reader_of, refl, subst, sym, ℕ, ⊤, ◌++◌, ◌+◌, ◌^◌, ◌∙◌, ◌∷◌, ◌≡◌, ◌≤◌}
 use Rattle.std.specs.Prelude.{IfErr, OnOk}
 use Rattle.std.proofs.lemmas.List.{length-map}
 use Rattle.cdb_form.specs.declared.width.Width.{Ghosts as Widths}
@@ -9,9 +9,11 @@ use Rattle.cdb_show.specs.Runs.Lookups.{StopsBehind}
 use Rattle.cdb_show.specs.Views.Fault.{text_fault}
 use Rattle.cdb_show.specs.Views.ItemReader.{Fails, GivesEnd, GivesItem, IsNew, asks_left}
 use Rattle.cdb_show.specs.declared.runs.item_reader.ItemReader.{ItemReader}
-use Rattle.cdb_show.proofs.ItemInputs.{items_all, items_begin, items_each, items_fewer, items_form, items_more, items_none, items_still, puts_fewer, puts_form}
+use Rattle.cdb_show.proofs.ItemInputs.{items_all, items_amid, items_begin, items_each, items_fewer, items_form, items_more, items_none, items_still, puts_fewer, puts_form}
 use Rattle.cdb_tool.specs.Runs.Batches.{DoesMore, HoldsBatch, IsAmid, PutsWaiting, StopsAmid, TakesMore}
-use Rattle.cdb_tool.specs.Runs.Make.{DoesItems, IsOfMaking, StepsOn, StopsItems}
+use Rattle.cdb_tool.specs.Runs.LongValues.{PutsLong, StopsLong, long_item}
+use Rattle.cdb_tool.specs.Runs.Make.{DoesItems, IsOfMaking, StepsOn, StoppedAt, StopsItems}
+use Rattle.cdb_form.specs.Format.{record_of}
 use Rattle.cdb_tool.specs.declared.runs.batch.Batch.{Batch}
 use Rattle.cdb_tool.proofs.Batches.{amid_count, amid_more, amid_none}
 use Rattle.cdb_tool.proofs.FrontItems.{items_front, whole_begins}
@@ -137,3 +139,25 @@ module _ {S L F : Type 0} {s : Ghosts S} {l : Widths L} (o : RunOptions) (n g : 
           step = step_text n fault done.follows done.fine;
         },
       )
+
+  -- ---- a record whose value was left
+
+  pub comes_long : {unsaid : Type 0} (t u : ItemReader F L) (key : List ℕ) (vlen : ℕ) (old new : Batch L) (mid now : Progress (Maker S L s l)) → Comes t old mid → PutsLong o g feed (long_item n t key vlen) u old new mid now → StepsOn {A = Unit} mid.state now.state ⊥ unsaid (Ok tt) → Comes u new now
+  comes_long t u key vlen old new mid now h x step = comes_more t u (Putting (record_of key x.value)) old new mid now h x.read x.does step
+
+  pub long_stops : {unsaid : Type 0} (t u : ItemReader F L) (key : List ℕ) (vlen : ℕ) (batch : Batch L) (mid now : Progress (Maker S L s l)) (f : Fault) → ((it : F) (whole a b : List ℕ) → (feed it).may whole a → (feed it).may whole b → a ≡ b) → Comes t batch mid → StopsLong o g feed (long_item n t key vlen) u batch mid now f → StepsOn {A = Unit} mid.state now.state ⊥ unsaid (Err f)
+      → Stopped (feed (reader_of u)) now f
+  long_stops t u key vlen batch mid now f one h why step = elim why [
+    | inl x ↦ (
+      h.last,
+      subst (StopsBehind form g n h.last start (feed (reader_of u))) (sym x.text.is) (text_stops g feed n start t u form h.last x.text.text one h.same h.gave x.text.fails),
+      record {
+        stops = λ t' read from same i at. subst (StoppedAt t' (came read h.last) from now.output now.state) (sym x.text.is) (text_stopped t' (came read h.last) from now.output now.state n x.text.text (x.puts h.last begin h.amid t' read from same i at));
+        step = failed_then mid now f h.step step;
+      },
+    )
+    | inr (inl x) ↦ stopped_amid t (feed (reader_of u)) h.last now f h.same (items_amid g feed start t u h.last key vlen x.got h.gave x.amid) (x.stops h.last begin h.amid) x.own (failed_then mid now f h.step step)
+    | inr (inr x) ↦
+        let c : Change = Putting (record_of key x.value) in
+        stopped_amid u (feed (reader_of u)) (h.last ++ c ∷ []) now f (items_form g feed t u c x.read ∙ h.same) (items_begin g feed start u (h.last ++ c ∷ []) (items_more g feed start t u h.last c h.gave x.read)) (x.stops h.last begin h.amid) x.own (failed_then mid now f h.step step)
+  ]

@@ -14,5 +14,6 @@ pub mod ToldLines
 pub mod Batched
 pub mod InputBatches
 pub mod FrontItems
+pub mod LongValues
 mod MakerSteps
 mod Words

@@ -1,5 +1,5 @@
 -- Steps of a run, one after another.
-use Rattle.cdb_tool.proofs.Words.{Err, Fault, Follows, Ghosts, Maker, Ok, OutputSays, Result, TextFault, follows_then, subst, ℕ, ⊤, ◌<◌, ◌∙◌, ◌≡◌}
+use Rattle.cdb_tool.proofs.Words.{Err, Fault, Follows, Ghosts, Maker, Ok, OutputSays, Result, TextFault, follows_then, subst, ℕ, ◌<◌, ◌∙◌, ◌≡◌}
 use Rattle.cdb_form.specs.declared.text.fault.TextFault.TheVariants as text
 use Rattle.cdb_form.specs.declared.width.Width.{Ghosts as Widths}
 use Rattle.cdb_show.specs.Views.Fault.{text_fault}
@@ -22,7 +22,7 @@ step_failed {A = A} {B = B} {s = s} {c = c} {unsaid = unsaid} {said = said} f be
 }
 
 -- it met a fault of a text
-pub step_text : {S L : Type 0} {s : Ghosts S} {l : Widths L} {a b : Maker S L s l} (n : ℕ) (f : TextFault) → Follows a b → s.failures b.store ≡ s.failures a.store → StepsOn {A = Unit} a b ⊥ ⊤ (Err (text_fault n f))
+pub step_text : {S L : Type 0} {s : Ghosts S} {l : Widths L} {a b : Maker S L s l} {unsaid : Type 0} (n : ℕ) (f : TextFault) → Follows a b → s.failures b.store ≡ s.failures a.store → StepsOn {A = Unit} a b ⊥ unsaid (Err (text_fault n f))
 step_text n text.NoMemory follows fine = record { follows = follows; failed = λ is. absurd is; memory = λ is. fine; fine = tt; base = λ is. absurd is; output = tt }
 step_text n f follows fine = record { follows = follows; failed = λ is. absurd is; memory = λ is. fine; fine = tt; base = λ is. absurd is; output = tt }
 

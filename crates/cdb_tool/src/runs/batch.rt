@@ -13,8 +13,8 @@ use std::marker::PhantomData;
 const FIRST: usize = 4096;
 
 /// The number of bytes that a batch has at most. They are more than a store's buffer has, so they
-/// are written without a copy.
-const MOST: usize = 128 * 1024;
+/// are written without a copy. A longer value is read in pieces.
+pub(crate) const MOST: usize = 128 * 1024;
 
 /// Records that wait, and how many items were done before them.
 #[derive(Drop)]

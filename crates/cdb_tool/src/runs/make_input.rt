@@ -1,5 +1,6 @@
 // The items of an input, one after the other: records are put, and keys removed.
 ghost use Rattle.std.specs.Prelude.{◌≡◌, ◌<◌, ℕ, List, Option, ◌||◌, None, Ok, OnOk, OnErr, IfErr};
+ghost use Rattle.cdb_form.specs.Format.{record_of, record_bytes};
 ghost use Rattle.cdb_form.specs.Text.Parse.{Putting, Removing};
 ghost use Rattle.cdb_make.specs.Views.Maker.{WhereHonest, store_of};
 ghost use Rattle.cdb_show.specs.Message.{TellsEach, TellsPart};
@@ -12,7 +13,7 @@ ghost use Rattle.cdb_tool.specs.declared.runs.options.RunOptions.{RunOptions};
 use crate::runs::options::RunOptions;
 use cdb_command::{MakeOptions, Style};
 use cdb_form::{Feeds, OutFault, Sink, Width};
-use cdb_make::{Maker, Mode, Put};
+use cdb_make::{FirstRecord, Maker, Mode, Put};
 use cdb_show::{
     Fault, InLined, InWindow, InputContext, InputTask, ItemReader, Lined, Lines, Window,
     write_duplicates,
@@ -136,6 +137,28 @@ pub(super) fn put_record<L: Width, S: Store, E: Sink>(
 {
     let put = maker.put(met.mode, key, value)?;
     tell_put(met, key, put, errors)
+}
+
+/// Puts a record of an input by one write of its bytes, and then reports it.
+#[inline(always)]
+pub(super) fn put_first_record<L: Width, S: Store, E: Sink>(
+    maker: &mut Maker<S, L>,
+    met: Met<'_>,
+    first: FirstRecord<'_>,
+    errors: &mut E,
+) -> Result<(), Fault>
+    requires mode { met.mode ≡ mode_of met.options.now.make }
+    requires whole { first.bytes.now
+        ≡ record_bytes L.WORD (record_of first.key.now first.value.now) }
+    ensures does { DoesItem met.entry.options.now met.entry.input met.entry.number
+        (Putting (record_of first.entry.key.now first.entry.value.now))
+        (progress (E.contents errors.old) maker.old)
+        (progress (E.contents errors.new) maker.new) result }
+    ensures own { IfErr result IsOfMaking }
+    ensures step { StepsOn maker.old maker.new ⊥ (E.failed errors.new) result }
+{
+    let put = maker.put_whole(met.mode, first)?;
+    tell_put(met, first.key, put, errors)
 }
 
 /// Removes the records of a key. Nothing is reported of it.

@@ -15,10 +15,12 @@ ghost use Rattle.cdb_tool.specs.Runs.Batches.{DoesMore, HoldsBatch, PutsWaiting}
 ghost use Rattle.cdb_tool.specs.Runs.Make.{mode_of, StepsOn, IsOfMaking, DoesItems, StopsItems};
 ghost use Rattle.cdb_tool.specs.declared.runs.options.RunOptions.{RunOptions};
 
-use crate::runs::batch::Batch;
-use crate::runs::make_input::{Met, Puts, line_of_last, put_mode, put_record, remove_key};
+use crate::runs::batch::{Batch, MOST};
+use crate::runs::make_input::{
+    Met, Puts, line_of_last, put_first_record, put_mode, put_record, remove_key,
+};
 use cdb_command::Style;
-use cdb_form::{AtHand, Feeds, ItemKind, Record, Sink, Width};
+use cdb_form::{AtHand, Feeds, ItemKind, Next, Record, Sink, Width};
 use cdb_make::{Maker, Mode, first_record};
 use cdb_show::{Fault, InputContext, ItemReader};
 use cdb_store::Store;
@@ -105,8 +107,8 @@ impl Puts<'_> {
                 number: batch.done + index as u64 + 1,
                 line,
             };
-            put_record(maker, met, record.key, record.value, errors)?;
-            place += record.size;
+            put_first_record(maker, met, record, errors)?;
+            place += record.bytes.len();
             if explains {
                 line = line_after(self.options.make.style, line, record.key, record.value);
             }
@@ -115,7 +117,7 @@ impl Puts<'_> {
     }
 
     /// Puts the records that wait. The first one begins at `line` of its input.
-    fn put_waiting<L: Width, S: Store, E: Sink>(
+    pub(super) fn put_waiting<L: Width, S: Store, E: Sink>(
         &self,
         maker: &mut Maker<S, L>,
         input: u64,
@@ -279,12 +281,17 @@ impl Puts<'_> {
             batch.fill::<F, A>(items);
             self.put_or_wait(maker, input, next, &mut batch, errors)?;
             let next = lines.next();
-            match items.read_into::<A>(&mut item) {
-                Ok(Some(ItemKind::Put)) => {
+            match items.read_up_to::<A>(&mut item, MOST as u64) {
+                Ok(Some(Next::Item(ItemKind::Put))) => {
                     let line = line_of_last(self.options.make.style, next, lines);
                     self.put_later(maker, input, line, &mut batch, &item, errors)?;
                 }
-                Ok(Some(ItemKind::Remove)) => {
+                Ok(Some(Next::Value(vlen))) => {
+                    self.put_long(
+                        maker, input, next, &mut batch, items, &item.key, vlen, errors,
+                    )?;
+                }
+                Ok(Some(Next::Item(ItemKind::Remove))) => {
                     self.remove_after(maker, input, &mut batch, &item.key, errors)?;
                 }
                 Ok(None) => return self.put_waiting(maker, input, 0, &mut batch, errors),
