@@ -20,7 +20,7 @@ use crate::text::fault::TextFault;
 use crate::text::fill::{Filled, fill};
 use crate::text::going::Going;
 use crate::text::long_value::Next;
-use crate::text::source::{PIECE, Source};
+use crate::text::source::Source;
 use crate::width::Width;
 use std::marker::PhantomData;
 
@@ -140,7 +140,7 @@ impl<R: Feeds, L: Width> FormReader<R, L> {
 
     /// Reads the next bytes of a value that `read_up_to` left, of which `left` are still to come,
     /// and returns how many stand at the start of `into` now: at least one, and no more than
-    /// `left`, than there is room for, and than 4096. What is behind them in `into` means nothing.
+    /// `left` and than there is room for. What is behind them in `into` means nothing.
     ///
     /// It takes no memory. As `read_into` does, it fails with `Ended` if the input ends, `Input` if
     /// the reader fails, and `Endless` if no request is left, and then every later item is that
@@ -161,7 +161,7 @@ impl<R: Feeds, L: Width> FormReader<R, L> {
             → IfErr result (FailsAs removals L.GREATEST R.feed first self.new) }
         ensures memory { IfErr result (λ fault. fault ≢ NoMemory) }
     {
-        let most = left.min(into.len() as u64).min(PIECE) as usize;
+        let most = left.min(into.len() as u64) as usize;
         match self.source.some_bytes(&mut into[..most]) {
             Ok(n) => Ok(n),
             Err(fault) => {

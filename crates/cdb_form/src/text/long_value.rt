@@ -14,7 +14,7 @@ use crate::item::ItemKind;
 use crate::reading::some_bytes;
 use crate::record::Record;
 use crate::text::fault::TextFault;
-use crate::text::source::Source;
+use crate::text::source::{PIECE, Source};
 
 /// What comes next in a text, where a long value is left to be read in pieces.
 #[derive(Clone, Copy, Debug, PartialEq, Eq)]
@@ -68,14 +68,14 @@ impl<R: Feeds> Source<R> {
         Ok(Some(Next::Item(kind)))
     }
 
-    /// Takes some of the next bytes: one at least, and as many at most as there is room for.
+    /// Takes some of the next bytes: one at least, and as many at most as there is room for. Each
+    /// 4096 of them count as a request.
     pub(crate) fn some_bytes(&mut self, into: &mut [u8]) -> Result<usize, TextFault>
         requires room { 0 < length into.old }
-        requires piece { length into.old ≤ 4096 }
         ensures read { IfOk result (λ n. Consumes (R.feed self.old.reader)
             (R.feed self.new.reader) (take n into.new)) }
         ensures bound { IfOk result (λ n. (0 < n) × (n ≤ length into.new)) }
-        ensures are { IfOk result (λ _. AreBytes into.new) }
+        ensures are { IfOk result (λ n. AreBytes (take n into.new)) }
         ensures counted { IfOk result (λ n. self.new.taken ≡ self.old.taken + n) }
         ensures fewer { OnOk result (self.new.asks < self.old.asks) }
         ensures fails { IfErr result (FailsIn R.feed self.old self.new
@@ -85,10 +85,12 @@ impl<R: Feeds> Source<R> {
         ensures memory { IfErr result (λ fault. fault ≢ NoMemory) }
         ensures spends { OnOk result (budget self.old ≤ budget self.new) }
     {
-        match some_bytes(&mut self.reader, &mut self.asks, into) {
+        let most = (into.len() as u64).min(PIECE * self.asks.max(1)) as usize;
+        match some_bytes(&mut self.reader, &mut self.asks, &mut into[..most]) {
             Ok(0) => Err(TextFault::Ended(self.taken)),
             Ok(n) => {
                 self.taken += n as u64;
+                self.asks = self.asks.saturating_sub(n as u64 / PIECE);
                 Ok(n)
             }
             Err(unread) => Err(TextFault::of_reader(unread, self.taken)),

@@ -22,7 +22,7 @@ fn next_in_pieces<F: Feeds, L: Width>(
     piece: usize,
 ) -> Result<Option<(ItemKind, usize)>, TextFault>
     requires some { 0 < piece }
-    requires piece { piece ≤ 4096 }
+    requires piece { piece ≤ 8192 }
     ensures { IfOk result (λ found. MatchOption found
         (GivesEnd F.feed text.old text.new)
         (λ p. GivesItem SpellsChange L.GREATEST F.feed text.old text.new
@@ -34,7 +34,7 @@ fn next_in_pieces<F: Feeds, L: Width>(
         Some(Next::Value(vlen)) => vlen,
     };
     into.value.clear();
-    let mut buffer = [0; 4096];
+    let mut buffer = [0; 8192];
     let mut left = vlen;
     let mut pieces = 0usize;
     while left > 0 {
@@ -72,7 +72,7 @@ fn read_all(
     let mut record = Record::empty(alloc);
     let mut shown = Vec::new(alloc);
     let mut count = 0usize;
-    let piece = pieces.piece.max(1).min(4096);
+    let piece = pieces.piece.max(1).min(8192);
     for _ in 0..9 {
         let answer = next_in_pieces(&mut text, &mut record, removals, pieces.most, piece);
         let fault = match answer {
@@ -144,10 +144,11 @@ const TEXTS: [(bool, [&[u8]; 4]); 2] = [
 ];
 
 /// The most bytes of a piece, the most that the reader gives, and the number of pieces.
-const COUNTS: [(usize, usize, usize); 6] = [
+const COUNTS: [(usize, usize, usize); 7] = [
     (1, usize::MAX, 5000),
     (7, usize::MAX, 715),
     (4096, usize::MAX, 2),
+    (8192, usize::MAX, 1),
     (1, 1, 5000),
     (7, 1, 5000),
     (4096, 1, 5000),
