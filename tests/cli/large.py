@@ -1,6 +1,7 @@
 #!/usr/bin/env python3
 """Runs the commands that read no value on databases with one of more than 1 GB, and of nearly 4 GiB, looks
-all keys of files of 60 MB up in little memory, and creates a database with a value of 64 MiB in no more.
+all keys of files of 60 MB up in little memory, and creates a database with a value of 64 MiB, of a text and of a
+base, in no more.
 
     tests/cli/large.py PROGRAM
 
@@ -13,6 +14,7 @@ import random
 import subprocess
 import sys
 import tempfile
+import time
 
 from cases import statistics
 from files import file_of, hash_of, text_of, words
@@ -80,6 +82,11 @@ def make_many(folder):
     return {("-q", "-i", "x", "keys"): text, ("-D", "x", "y"): len(removals) + text}
 
 
+def size_of(path):
+    """The size of a file, 0 if there is none."""
+    return os.path.getsize(path) if os.path.exists(path) else 0
+
+
 def peak_so_far(running):
     """The peak of memory of a program that has not ended."""
     with open(f"/proc/{running.pid}/status", encoding="ascii") as status:
@@ -119,6 +126,22 @@ def creates_within(program):
     return (running.returncode, made) == (0, 2048 + 8 + len(KEY) + LONG + 16) and peak <= PEAK
 
 
+def amends_within(program):
+    """Whether a create takes little memory for a value of many bytes of its base."""
+    with tempfile.TemporaryDirectory() as folder:
+        make(os.path.join(folder, "x"), LONG)
+        made = os.path.join(folder, "y")
+        with subprocess.Popen([program, "-c", "-b", "x", "y"], cwd=folder, stdin=subprocess.PIPE) as running:
+            until = time.monotonic() + HANGS
+            # The base is copied before the input is read.
+            while size_of(made + ".tmp") < LONG - LEFT and time.monotonic() < until:
+                time.sleep(0.01)
+            peak = peak_so_far(running)
+            running.stdin.write(b"\n")
+        print(f"a create of a base takes {peak >> 10} KiB")
+        return (running.returncode, size_of(made)) == (0, size_of(os.path.join(folder, "x"))) and peak <= PEAK
+
+
 def main():
     if len(sys.argv) != 2:
         sys.exit(__doc__)
@@ -132,7 +155,7 @@ def main():
                 passed, failed = passed + (left == wanted), failed + (left != wanted)
                 if left != wanted:
                     print(f"a value of {size} bytes, {' '.join(given)}: {left!r:.300}")
-    for held in (*looks_within(program), creates_within(program)):
+    for held in (*looks_within(program), creates_within(program), amends_within(program)):
         passed, failed = passed + held, failed + (not held)
     print(f"{passed} passed, {failed} failed")
     sys.exit(1 if failed else 0)

@@ -1,23 +1,29 @@
 -- A base whose records are added to a maker, one after the other.
-use Rattle.cdb_tool.proofs.Words.{Bool, Damage, Err, FailsPutting, Fault, Ghosts, Holds, KeyValue, List, MakeFault, Maker, None, OnlyReads, OutputSays, Put, Puts, ReadFault, Some, WhereHonest, [], ap, append_assoc, arith, false, file_size, holds_fits, length, limit_of, reads_nothing, record_in, refl, subst, sym, take, true, true≢false, ℕ, ◌++◌, ◌<◌, ◌∙◌, ◌∷◌, ◌≡◌, ◌≤◌, ◌⊎◌}
-use Rattle.std.proofs.Math.Seq.{take-append_seam}
-use Rattle.std.proofs.lemmas.List.{append-nil, length-take}
+use Rattle.cdb_tool.proofs.Words.{Bool, Damage, Err, FailsPutting, Fault, Follows, Ghosts, Holds, KeyValue, List, MakeFault, Maker, None, Ok, OnlyReads, OutputSays, Put, Puts, ReadFault, Result, Some, WhereHonest, [], ap, append_assoc, arith, false, file_size, holds_fits, length, length-append, limit_of, reads_nothing, record_in, refl, subst, sym, take, true, true≢false, ℕ, ◌++◌, ◌+◌, ◌<◌, ◌∙◌, ◌∷◌, ◌≡◌, ◌≤◌, ◌⊎◌}
+use Rattle.std.proofs.Math.Seq.{drop-drop, take-add, take-append_seam}
+use Rattle.std.proofs.Common.{Global, Vec}
+use Rattle.std.specs.Prelude.{IfErr, drop, replicate, ◌-◌}
+use Rattle.std.proofs.lemmas.List.{append-nil, length-take, take_all}
 use Rattle.cdb_form.specs.declared.width.Width.{Ghosts as Widths}
 use Rattle.cdb_form.specs.Format.{Walked, walk_of, whole_records, damaged, no_walk, with_first, with_records}
 use Rattle.cdb_form.proofs.Files.WalkSteps.{walk_of-short}
 use Rattle.cdb_form.specs.declared.damage.Damage.TheVariants as damage
 use Rattle.cdb_make.specs.Views.Appending.{AppendsAll, FailsAppending}
+use Rattle.cdb_make.specs.Views.Long.{FailsLong}
 use Rattle.cdb_store.specs.declared.make_fault.MakeFault.TheVariants as make
 use Rattle.cdb_form.specs.declared.mode.Mode.TheVariants.{Add}
+use Rattle.cdb_make.specs.declared.answer.Put.TheVariants.{Added}
 use Rattle.cdb_make.proofs.Rolls.{whole_push}
 use Rattle.cdb_read.specs.Lookup.{bytes_of}
-use Rattle.cdb_read.specs.Views.Reads.{OpeningFails}
+use Rattle.cdb_read.specs.Views.Reads.{OpeningFails, ValueFails}
 use Rattle.cdb_read.specs.Views.Walking.{left_of, WalkingFails}
 use Rattle.cdb_read.specs.declared.fault.ReadFault.TheVariants as read
 use Rattle.cdb_read.specs.declared.walking.records.Walk.{Walk}
 use Rattle.cdb_read.specs.declared.span.Pair.{Pair}
+use Rattle.cdb_read.specs.declared.span.Span.{Span}
+use Rattle.cdb_read.proofs.Walked.WalkedLengths.{length_of}
 use Rattle.cdb_show.specs.Views.Fault.{read_fault, make_fault}
-use Rattle.cdb_tool.specs.Runs.Make.{AddsNext, NotAdded, AddsBase, BaseFails, IsOfBase}
+use Rattle.cdb_tool.specs.Runs.Make.{AddsBase, AddsNext, AddsRecord, BaseFails, IsOfBase, NotAdded, PutsValue, RecordNotAdded, StepsOn}
 
 -- these records were given and added, and then comes what is left of the walk
 pub record AddedSoFar {S L : Type 0} {s : Ghosts S} {l : Widths L} (w : ℕ) (images : List ℕ → Type 0) (left : List ℕ → Walked) (first m : Maker S L s l) : Type 0 where
@@ -87,18 +93,40 @@ window_added w images left rest m now xs bytes n k few is given x = record {
 }
 
 -- the next record was
-pub one_added : {S L : Type 0} {s : Ghosts S} {l : Widths L} (w : ℕ) (images : List ℕ → Type 0) (left rest : List ℕ → Walked) (m now : Maker S L s l) (pair : Pair) (k v : List ℕ) (put : Put) → ((b : List ℕ) → images b → left b ≡ with_first (record_in b pair) (rest b))
-    → ((b : List ℕ) → images b → k ≡ bytes_of b pair.key) → ((b : List ℕ) → images b → v ≡ bytes_of b pair.value) → Puts m now Add (record { key = k; value = v }) put → AddsNext w images left rest m now true
-one_added w images left rest m now pair k v put given key value puts = record {
-  records = record { key = k; value = v } ∷ [];
-  given = λ b i.
-      let r : KeyValue = record_in b pair in
-      let is : KeyValue = record { key = k; value = v } in
-      let same : is ≡ r = let e = key b i in let f = value b i in cc in
-      given b i ∙ ap (λ q. with_records (q ∷ []) (rest b)) (sym same);
-  holds = λ rs h. puts.holds rs h;
+pub one_added : {S L : Type 0} {s : Ghosts S} {l : Widths L} (w : ℕ) (images : List ℕ → Type 0) (left rest : List ℕ → Walked) (m now : Maker S L s l) (pair : Pair) → ((b : List ℕ) → images b → left b ≡ with_first (record_in b pair) (rest b)) → AddsRecord images pair m now → AddsNext w images left rest m now true
+one_added w images left rest m now pair given x = record {
+  records = x.one ∷ [];
+  given = λ b i. given b i ∙ ap (λ q. with_records (q ∷ []) (rest b)) (sym (x.is b i));
+  holds = x.holds;
   ended = λ e. absurd (true≢false e);
 }
+
+-- it was put whole
+pub record_added : {S L : Type 0} {s : Ghosts S} {l : Widths L} (images : List ℕ → Type 0) (m now : Maker S L s l) (pair : Pair) (k v : List ℕ) (put : Put) → ((b : List ℕ) → images b → k ≡ bytes_of b pair.key) → ((b : List ℕ) → images b → v ≡ bytes_of b pair.value) → Puts m now Add (record { key = k; value = v }) put
+    → AddsRecord images pair m now
+record_added images m now pair k v put key value puts = record {
+  one = record { key = k; value = v };
+  is = λ b i. let e = key b i in let f = value b i in cc;
+  holds = puts.holds;
+}
+
+-- or in pieces
+pub long_added : {S L : Type 0} {s : Ghosts S} {l : Widths L} (images : List ℕ → Type 0) (m now : Maker S L s l) (pair : Pair) (key : List ℕ) → ((b : List ℕ) → images b → key ≡ bytes_of b pair.key) → PutsValue images m now key pair.value → AddsRecord images pair m now
+long_added images m now pair key is x = record_added images m now pair key x.value Added is x.is x.puts
+
+-- a piece of a value was read after what was read of it
+pub span_piece : (b got piece : List ℕ) (value next : Span) → got ≡ take (length got) (drop value.place b) → piece ≡ bytes_of b next → next.place ≡ value.place + length got → next.place + next.len ≤ length b → got ++ piece ≡ take (length (got ++ piece)) (drop value.place b)
+span_piece b got piece value next so is at inside =
+    let k = length got in
+    let more : piece ≡ take next.len (drop k (drop value.place b)) = is ∙ ap (λ n. take next.len (drop n b)) at ∙ ap (take next.len) (sym (drop-drop k value.place b)) in
+    let long : length (got ++ piece) ≡ k + next.len = length-append got piece ∙ ap (λ n. k + n) (ap length is ∙ length_of b next inside) in
+    ap (λ x. x ++ piece) so ∙ ap (λ y. take k (drop value.place b) ++ y) more ∙ sym (take-add k next.len (drop value.place b)) ∙ ap (λ n. take n (drop value.place b)) (sym long)
+
+-- its vector had as many bytes already
+pub same_length : (n : ℕ) (v : Vec ℕ Global) → length v.items ≡ n → take n v.items ++ replicate (n - v.len) 0 ≡ v.items
+same_length n v is =
+    let none : n - v.len ≡ 0 = omega (arith, v.ok, is) in
+    ap (λ k. take n v.items ++ replicate k 0) none ∙ append-nil (take n v.items) ∙ take_all n v.items (omega (arith, is))
 
 -- none was left
 pub none_added : {S L : Type 0} {s : Ghosts S} {l : Widths L} (w : ℕ) (images : List ℕ → Type 0) (left rest : List ℕ → Walked) (m : Maker S L s l) → ((b : List ℕ) → images b → left b ≡ no_walk) → ((b : List ℕ) → images b → rest b ≡ no_walk) → AddsNext w images left rest m m false
@@ -190,16 +218,44 @@ unadded_so {l = l} rs r left rest m now make.TooBig all x holds a j = prefix_pas
 unadded_so rs r left rest m now make.NoMemory all x holds a j = tt
 unadded_so rs r left rest m now make.Writing all x holds a j = tt
 
-pub one_stopped : {S L : Type 0} {s : Ghosts S} {l : Widths L} (images : List ℕ → Type 0) (left rest : List ℕ → Walked) (m now : Maker S L s l) (pair : Pair) (k v : List ℕ) (f : MakeFault) → ((b : List ℕ) → images b → left b ≡ with_first (record_in b pair) (rest b))
-    → ((b : List ℕ) → images b → k ≡ bytes_of b pair.key) → ((b : List ℕ) → images b → v ≡ bytes_of b pair.value) → FailsPutting m now Add (record { key = k; value = v }) f
-    → (rs : List KeyValue) → Holds m rs → (b : List ℕ) → images b → WhereHonest (s.image now.store) (NotAdded l.WORD (limit_of m) (with_records rs (left b)) (make_fault f))
-one_stopped images left rest m now pair k v f given key value x rs holds b i = record {
+pub record_stopped : {S L : Type 0} {s : Ghosts S} {l : Widths L} (images : List ℕ → Type 0) (m now : Maker S L s l) (pair : Pair) (k v : List ℕ) (f : MakeFault) → ((b : List ℕ) → images b → k ≡ bytes_of b pair.key) → ((b : List ℕ) → images b → v ≡ bytes_of b pair.value) → FailsPutting m now Add (record { key = k; value = v }) f
+    → RecordNotAdded images pair m now (make_fault f)
+record_stopped images m now pair k v f key value x = λ rest rs holds b i. record {
   each = λ a j.
       let r : KeyValue = record_in b pair in
       let is : KeyValue = record { key = k; value = v } in
       let same : is ≡ r = let e = key b i in let g = value b i in cc in
-      unadded_so rs is (left b) (rest b) m now f (given b i ∙ ap (λ q. with_first q (rest b)) (sym same)) x holds a j;
+      unadded_so rs is (with_first r rest) rest m now f (ap (λ q. with_first q rest) (sym same)) x holds a j;
 }
+
+-- or written in pieces
+pub long_stopped : {S L : Type 0} {s : Ghosts S} {l : Widths L} (m now : Maker S L s l) (f : MakeFault) → FailsLong m now f → (w limit : ℕ) (walk : Walked) → NotAdded w limit walk (make_fault f)
+long_stopped m now make.NoMemory x w limit walk = tt
+long_stopped m now make.Writing x w limit walk = tt
+long_stopped m now f x w limit walk = absurd x
+
+-- the walk stops with it
+pub next_stopped : {S L : Type 0} {s : Ghosts S} {l : Widths L} (images : List ℕ → Type 0) (left rest : List ℕ → Walked) (m now : Maker S L s l) (pair : Pair) (f : Fault) → ((b : List ℕ) → images b → left b ≡ with_first (record_in b pair) (rest b)) → RecordNotAdded images pair m now f
+    → (rs : List KeyValue) → Holds m rs → (b : List ℕ) → images b → WhereHonest (s.image now.store) (NotAdded l.WORD (limit_of m) (with_records rs (left b)) f)
+next_stopped {l = l} images left rest m now pair f given x rs holds b i = record {
+  each = λ a j. subst (λ v. NotAdded l.WORD (limit_of m) (with_records rs v) f) (sym (given b i)) ((x (rest b) rs holds b i).each a j);
+}
+
+-- no value was read of it
+pub unread_anywhere : {B : Type 0} (t : Ghosts B) (old new : B) (f : ReadFault) → ValueFails t old new f → (w limit : ℕ) (walk : Walked) → NotAdded w limit walk (read_fault f)
+unread_anywhere t old new read.NoMemory x w limit walk = tt
+unread_anywhere t old new read.Device x w limit walk = tt
+unread_anywhere t old new f x w limit walk = absurd x
+
+pub unread_base : {S L B : Type 0} {s : Ghosts S} {l : Widths L} {unread unsaid : Type 0} (t : Ghosts B) (old new : B) (m k : Maker S L s l) (f : ReadFault) → ValueFails t old new f → Follows m k → s.failures k.store ≡ s.failures m.store → (t.failures old < t.failures new → unread)
+    → StepsOn {A = Unit} m k unread unsaid (Err (read_fault f))
+unread_base t old new m k read.NoMemory x follows fine more = record { follows = follows; failed = λ is. absurd is; memory = λ is. fine; fine = tt; base = λ is. absurd is; output = tt }
+unread_base t old new m k read.Device x follows fine more = record { follows = follows; failed = λ is. absurd is; memory = λ is. fine; fine = tt; base = λ is. more x; output = tt }
+unread_base t old new m k f x follows fine more = absurd x
+
+pub value_stopped : {S L : Type 0} {s : Ghosts S} {l : Widths L} (images : List ℕ → Type 0) (m now : Maker S L s l) (pair : Pair) (result : Result Unit Fault) → IfErr result (λ f. (limit : ℕ) (walk : Walked) → NotAdded l.WORD limit walk f) → IfErr result (RecordNotAdded images pair m now)
+value_stopped images m now pair (Ok u) x = tt
+value_stopped images m now pair (Err f) x = λ rest rs holds b i. record { each = λ a j. x (limit_of m) (with_records rs (with_first (record_in b pair) rest)) }
 
 -- what fails so is no fault of the base's store
 pub make_no_base : (f : MakeFault) → IsOfBase (make_fault f) → ⊥

@@ -1,6 +1,7 @@
 -- A record whose value is read in pieces, and a run that comes to it.
-use Rattle.cdb_tool.proofs.Words.{Err, Fault, Feed, Follows, Ghosts, KeyValue, List, MakeFault, Maker, Ok, Option, Puts, Putting, Result, RunOptions, [], TellsEach, append-nil, arith, came, follows_same, inl, inr, make_fault, progress, refl, subst, sym, ℕ, ◌+◌, ◌∙◌, ◌≡◌, ◌⊎◌}
+use Rattle.cdb_tool.proofs.Words.{Err, Fault, Feed, Follows, Ghosts, KeyValue, List, MakeFault, Maker, Ok, Option, Puts, Putting, Result, RunOptions, [], TellsEach, ap, append-nil, arith, came, follows_same, inl, inr, length, make_fault, progress, refl, subst, sym, take, ℕ, ◌+◌, ◌∙◌, ◌≡◌, ◌≤◌, ◌⊎◌}
 use Rattle.std.specs.Prelude.{IfErr, OnErr, OnOk}
+use Rattle.std.proofs.lemmas.List.{length-take-le}
 use Rattle.std.proofs.lemmas.Result.{on_ok_weaker}
 use Rattle.cdb_store.specs.declared.make_fault.MakeFault.TheVariants as make
 use Rattle.cdb_form.specs.Format.{record_of}
@@ -29,7 +30,7 @@ long_halts m k make.NoMemory x = (tt, tt, x.0)
 long_halts m k make.Writing x = (tt, tt, x.0)
 long_halts m k f x = absurd x
 
-pub long_step : {S L : Type 0} {s : Ghosts S} {l : Widths L} {unsaid : Type 0} (m k : Maker S L s l) (f : MakeFault) → FailsLong m k f → Follows m k → StepsOn {A = Unit} m k ⊥ unsaid (Err (make_fault f))
+pub long_step : {S L : Type 0} {s : Ghosts S} {l : Widths L} {unread unsaid : Type 0} (m k : Maker S L s l) (f : MakeFault) → FailsLong m k f → Follows m k → StepsOn {A = Unit} m k unread unsaid (Err (make_fault f))
 long_step m k make.NoMemory x follows = record { follows = follows; failed = λ is. absurd is; memory = λ e. x.1; fine = tt; base = λ is. absurd is; output = tt }
 long_step m k make.Writing x follows = record { follows = follows; failed = λ is. x.1.failed; memory = λ e. cc; fine = tt; base = λ is. absurd is; output = tt }
 long_step m k f x follows = absurd x
@@ -37,6 +38,12 @@ long_step m k f x follows = absurd x
 -- what is counted, one step after another
 pub then_counts : {S L : Type 0} {s : Ghosts S} {l : Widths L} (a b c : Maker S L s l) → SameCounts a b → SameCounts b c → SameCounts a c
 then_counts a b c x y = record { count = y.count ∙ x.count; size = y.size ∙ x.size; limit = y.limit ∙ x.limit }
+
+-- a piece of a value was read over the memory of a batch
+pub still_none : {L : Type 0} {w top : ℕ} (batch after : Batch L) → HoldsBatch w top batch [] → batch.held ≤ length batch.bytes.items → after.held ≡ batch.held → after.count ≡ batch.count → HoldsBatch w top after []
+still_none batch after none within held count =
+    let zero : after.held ≡ 0 = omega (arith, held, within, ap length none.bytes, length-take-le batch.held batch.bytes.items within) in
+    record { bytes = ap (λ n. take n after.bytes.items) zero; count = count ∙ none.count; are = none.are; fit = none.fit }
 
 module _ {S L F : Type 0} {s : Ghosts S} {l : Widths L} (o : RunOptions) (g : ℕ) (feed : F → Feed) (it : LongItem F L) (now : ItemReader F L) (batch : Batch L) (old : Progress (Maker S L s l)) (mid : Option (List ℕ)) (m : Maker S L s l) (waited : PutsWaiting o it.input batch old (progress mid m) (Ok tt)) where
   -- before the value was read

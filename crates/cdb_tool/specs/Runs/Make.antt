@@ -3,11 +3,15 @@ use Rattle.std.specs.Prelude.{ℕ, ◌≡◌, ◌<◌, ◌≤◌, ⊤, Bool, fal
 use Rattle.cdb_store.specs.declared.store.Store.{Ghosts}
 use Rattle.cdb_form.specs.declared.damage.Damage.{Damage}
 use Rattle.cdb_form.specs.declared.width.Width.{Ghosts as Widths}
-use Rattle.cdb_form.specs.Format.{file_size, KeyValue, Walked, no_walk, with_records, walk_of, file_bytes}
-use Rattle.cdb_make.specs.Views.Maker.{Holds, Follows, WhereHonest, IsFile, limit_of, told_count, IsUsable}
+use Rattle.cdb_form.specs.Format.{file_size, KeyValue, Walked, no_walk, record_of, with_first, with_records, walk_of, file_bytes}
+use Rattle.cdb_make.specs.Views.Maker.{Holds, Follows, Puts, WhereHonest, IsFile, limit_of, told_count, IsUsable}
 use Rattle.cdb_store.specs.declared.make_fault.MakeFault.TheVariants.{TooBig, Writing, Lookup}
 use Rattle.cdb_make.specs.declared.maker.Maker.{Maker}
+use Rattle.cdb_read.specs.Lookup.{bytes_of}
 use Rattle.cdb_read.specs.Views.Reads.{damage_fault}
+use Rattle.cdb_read.specs.Views.Walking.{record_in}
+use Rattle.cdb_read.specs.declared.span.Pair.{Pair}
+use Rattle.cdb_read.specs.declared.span.Span.{Span}
 use Rattle.cdb_read.specs.declared.fault.ReadFault.TheVariants as read
 use Rattle.cdb_show.specs.declared.fault.Fault.{Fault}
 use Rattle.cdb_show.specs.declared.fault.Fault.TheVariants.{Make, Read, NoMemory, Duplicate, Output, Text}
@@ -15,7 +19,7 @@ use Rattle.cdb_form.specs.Text.Parse.{Change, Putting, Removing}
 use Rattle.cdb_make.specs.Survivors.{put_step, put_result, without}
 use Rattle.cdb_store.specs.declared.make_fault.MakeFault.{MakeFault}
 use Rattle.cdb_form.specs.declared.mode.Mode.{Mode}
-use Rattle.cdb_form.specs.declared.mode.Mode.TheVariants.{Insert}
+use Rattle.cdb_form.specs.declared.mode.Mode.TheVariants.{Add, Insert}
 use Rattle.cdb_make.specs.declared.answer.Put.{Put}
 use Rattle.cdb_make.specs.declared.answer.Put.TheVariants.{Added, AddedAgain, Present, Replaced}
 use Rattle.cdb_show.specs.Message.{TellsEach, TellsPart, Told}
@@ -60,6 +64,28 @@ NotAdded w limit walk (Read fault) = (damage : Damage) × (fault ≡ damage_faul
     × (walk.damage ≡ Some damage) × (file_size w walk.records ≤ limit)
 NotAdded w limit walk NoMemory = ⊤
 NotAdded w limit walk fault = ⊥
+
+-- a record of each image was added
+pub record AddsRecord {S L : Type 0} {s : Ghosts S} {l : Widths L} (images : List ℕ → Type 0)
+    (pair : Pair) (old new : Maker S L s l) : Type 0 where
+  pub one : KeyValue
+  pub is : (b : List ℕ) → images b → one ≡ record_in b pair
+  pub holds : (rs : List KeyValue) → Holds old rs → Holds new (rs ++ one ∷ [])
+
+-- or this stopped it, and the others of the walk with it
+abbrev pub RecordNotAdded : {S L : Type 0} {s : Ghosts S} {l : Widths L} → (images : List ℕ → Type 0)
+    → Pair → (old new : Maker S L s l) → Fault → Type 0
+RecordNotAdded {s = s} {l = l} images pair old new fault =
+    (rest : Walked) (rs : List KeyValue) → Holds old rs → (b : List ℕ) → images b
+    → WhereHonest (s.image new.store) (NotAdded l.WORD (limit_of old)
+    (with_records rs (with_first (record_in b pair) rest)) fault)
+
+-- a record was put with a key and the value that each image has at a span
+pub record PutsValue {S L : Type 0} {s : Ghosts S} {l : Widths L} (images : List ℕ → Type 0)
+    (old new : Maker S L s l) (key : List ℕ) (span : Span) : Type 0 where
+  pub value : List ℕ
+  pub is : (b : List ℕ) → images b → value ≡ bytes_of b span
+  pub puts : Puts old new Add (record_of key value) Added
 
 -- ---- How a run that makes a database goes: it begins with the records of its base, if it has one; then
 -- what its inputs say is done, one item after the other, up to the one that ends it.

@@ -1,5 +1,5 @@
 // Records of an input that wait to be put, as a file has them: so many of them are written at once.
-ghost use Rattle.std.specs.Prelude.{◌≡◌, ◌+◌, ◌≤◌, ◌^◌, ◌++◌, ◌∷◌, [], List, true, false, take, vec_len};
+ghost use Rattle.std.specs.Prelude.{◌≡◌, ◌+◌, ◌≤◌, ◌^◌, ◌++◌, ◌∷◌, [], List, true, false, take, vec_len, OnOk};
 ghost use Rattle.cdb_form.specs.Format.{KeyValue};
 ghost use Rattle.cdb_form.specs.Views.Fill.{HasRoom};
 ghost use Rattle.cdb_form.specs.Views.Pairs.{key_value};
@@ -19,7 +19,7 @@ pub(crate) const MOST: usize = 128 * 1024;
 /// Records that wait, and how many items were done before them.
 #[derive(Drop)]
 pub(crate) struct Batch<L> {
-    bytes: Vec<u8>,
+    pub(crate) bytes: Vec<u8>,
     /// The number of bytes that the records have.
     pub(crate) held: usize,
     /// The number of records.
@@ -95,6 +95,19 @@ impl<L: Width> Batch<L> {
         self.count = 0;
     }
 
+    /// Makes room for so many bytes. No record waits.
+    pub(crate) fn reserve(&mut self, size: usize) -> Result<(), AllocError>
+        requires { HoldsBatch L.WORD L.TOP self.old [] }
+        ensures room { OnOk result (size ≤ vec_len self.new.bytes) }
+        ensures none { HoldsBatch L.WORD L.TOP self.new [] }
+        ensures done { self.new.done ≡ self.old.done }
+    {
+        if self.bytes.len() < size {
+            self.bytes.resize(size, 0)?;
+        }
+        Ok(())
+    }
+
     /// Makes room for more records at once. None waits.
     pub(crate) fn grow(&mut self) -> Result<(), AllocError>
         requires { HoldsBatch L.WORD L.TOP self.old [] }
@@ -102,9 +115,6 @@ impl<L: Width> Batch<L> {
         ensures done { self.new.done ≡ self.old.done }
     {
         let size = if self.bytes.is_empty() { FIRST } else { MOST };
-        if self.bytes.len() < size {
-            self.bytes.resize(size, 0)?;
-        }
-        Ok(())
+        self.reserve(size)
     }
 }

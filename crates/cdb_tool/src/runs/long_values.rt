@@ -1,6 +1,6 @@
 // A record of an input whose value is too long to wait is read in pieces. An added one goes to the
 // store as it is read.
-ghost use Rattle.std.specs.Prelude.{◌≡◌, ◌+◌, ◌≤◌, ◌⊎◌, ◌^◌, ℕ, [], List, length, Ok, None, OnOk, OnErr, IfOk, IfErr, IfSome};
+ghost use Rattle.std.specs.Prelude.{◌≡◌, ◌+◌, ◌<◌, ◌≤◌, ◌⊎◌, ◌^◌, ℕ, [], List, length, Ok, None, OnOk, OnErr, IfOk, IfErr, IfSome};
 ghost use Rattle.cdb_form.specs.Format.{KeyValue, record_of};
 ghost use Rattle.cdb_form.specs.declared.mode.Mode.TheVariants.{Add};
 ghost use Rattle.cdb_make.specs.declared.answer.Put.TheVariants.{Added};
@@ -15,7 +15,7 @@ ghost use Rattle.cdb_tool.specs.Runs.Batches.{HoldsBatch};
 ghost use Rattle.cdb_tool.specs.Runs.LongValues.{HasTextFault, IsAmid, IsRead, LongItem, PutsLong, StopsAdding, StopsLong, long_item};
 ghost use Rattle.cdb_tool.specs.Runs.Make.{StepsOn};
 
-use crate::runs::batch::Batch;
+use crate::runs::batch::{Batch, MOST};
 use crate::runs::make_input::{Met, Puts, put_mode, put_record};
 use cdb_form::{Feeds, Sink, Width};
 use cdb_make::{LongRecord, MakeFault, Maker, Mode};
@@ -23,16 +23,16 @@ use cdb_show::{Fault, ItemReader};
 use cdb_store::Store;
 use std::alloc::Global;
 
-/// The number of bytes of a value that are read at once.
-const PIECE: usize = 4096;
-
-/// Reads a value of `vlen` bytes whole. Its memory grows with the bytes that come.
+/// Reads a value of `vlen` bytes whole, a piece after the other. Its memory grows with the bytes that
+/// come.
 fn read_whole<L: Width, F: Feeds>(
     alloc: Global,
     items: &mut ItemReader<F, L>,
     input: u64,
     vlen: u64,
+    piece: &mut [u8],
 ) -> Result<Vec<u8>, Fault>
+    requires room { 0 < length piece.old }
     requires left { (it : LongItem F L) × (it.vlen ≡ vlen)
         × IsAmid L.GREATEST F.feed it items.old [] }
     ensures read { (it : LongItem F L) → it.vlen ≡ vlen → IsAmid L.GREATEST F.feed it items.old []
@@ -42,10 +42,9 @@ fn read_whole<L: Width, F: Feeds>(
         HasTextFault L.GREATEST F.feed it items.new fault
         ⊎ ((fault ≡ NoMemory) × ((got : List ℕ) × IsAmid L.GREATEST F.feed it items.new got))) }
 {
-    let mut piece = [0u8; PIECE];
     let mut value = Vec::new(alloc);
     while (value.len() as u64) < vlen {
-        let n = match items.read_value(&mut piece, vlen - value.len() as u64) {
+        let n = match items.read_value(piece, vlen - value.len() as u64) {
             Ok(n) => n,
             Err(fault) => return Err(Fault::of_text(input, fault)),
         };
@@ -84,7 +83,9 @@ fn add_long<L: Width, S: Store, F: Feeds>(
     input: u64,
     items: &mut ItemReader<F, L>,
     mut long: LongRecord,
+    piece: &mut [u8],
 ) -> Result<(), Fault>
+    requires room { 0 < length piece.old }
     requires begun { (first : _) × (it : LongItem F L)
         × IsPart first maker.old it.key it.vlen [] long
         × IsAmid L.GREATEST F.feed it items.old [] }
@@ -100,9 +101,8 @@ fn add_long<L: Width, S: Store, F: Feeds>(
     ensures fine { OnOk result (HasNotFailed maker.old maker.new) }
     ensures counts { OnErr result (SameCounts maker.old maker.new) }
 {
-    let mut piece = [0u8; PIECE];
     while long.left() > 0 {
-        let n = match items.read_value(&mut piece, long.left()) {
+        let n = match items.read_value(piece, long.left()) {
             Ok(n) => n,
             Err(fault) => return Err(Fault::of_text(input, fault)),
         };
@@ -148,12 +148,13 @@ impl Puts<'_> {
         ensures step { StepsOn maker.old maker.new ⊥ (E.failed errors.new) result }
     {
         self.put_waiting(maker, input, line, batch, errors)?;
+        batch.reserve(MOST)?;
         batch.done += 1;
         let mode = put_mode(&self.options.make);
         if let Some(long) = begin_added(maker, mode, key, vlen)? {
-            return add_long(maker, input, items, long);
+            return add_long(maker, input, items, long, &mut batch.bytes);
         }
-        let value = read_whole(self.context.alloc, items, input, vlen)?;
+        let value = read_whole(self.context.alloc, items, input, vlen, &mut batch.bytes)?;
         let met = Met {
             options: &self.options,
             mode,

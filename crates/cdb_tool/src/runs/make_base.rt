@@ -1,16 +1,18 @@
 // The records of a base, which a maker begins with.
-ghost use Rattle.std.specs.Prelude.{◌≡◌, ◌<◌, ◌≤◌, ℕ, List, [], true, OnOk, IfOk, IfErr};
+ghost use Rattle.std.specs.Prelude.{◌≡◌, ◌+◌, ◌<◌, ◌≤◌, ℕ, List, [], true, OnOk, IfOk, IfErr};
 ghost use Rattle.cdb_store.specs.Reads.{OnlyReads};
-ghost use Rattle.cdb_form.specs.Format.{KeyValue, with_records};
-ghost use Rattle.cdb_make.specs.Views.Maker.{Follows, Holds, WhereHonest, limit_of, store_of};
+ghost use Rattle.cdb_form.specs.Format.{KeyValue, Walked, with_records};
+ghost use Rattle.cdb_make.specs.Views.Long.{IsPart};
+ghost use Rattle.cdb_make.specs.Views.Maker.{Holds, WhereHonest, limit_of, store_of};
 ghost use Rattle.cdb_read.specs.Views.Walking.{left_of, bytes_left};
 ghost use Rattle.cdb_show.specs.Views.Output.{OutputSays};
-ghost use Rattle.cdb_tool.specs.Runs.Make.{AddsNext, NotAdded, BaseFails, HandsBack, BaseHasFailed, IsOfMaking, StepsOn, AddsBase, HoldsBase, BaseStopped};
+ghost use Rattle.cdb_tool.specs.Runs.Make.{AddsNext, AddsRecord, NotAdded, PutsValue, RecordNotAdded, BaseFails, HandsBack, BaseHasFailed, IsOfMaking, StepsOn, AddsBase, HoldsBase, BaseStopped};
 ghost use Rattle.cdb_show.specs.declared.fault.Fault.TheVariants.{NoMemory};
 
+use crate::runs::batch::MOST;
 use cdb_form::Width;
-use cdb_make::{Maker, Mode};
-use cdb_read::{Reader, Walk, walk};
+use cdb_make::{LongRecord, Maker, Mode};
+use cdb_read::{Pair, Reader, Span, Walk, walk};
 use cdb_show::Fault;
 use cdb_store::Store;
 use std::alloc::{AllocError, Global};
@@ -39,6 +41,69 @@ impl Room {
             value: Vec::new(alloc),
         })
     }
+}
+
+/// Writes the value of a record that was begun, a piece after the other.
+fn copy_value<L: Width, S: Store, B: Store>(
+    maker: &mut Maker<S, L>,
+    records: &mut Walk<'_, B, L>,
+    value: Span,
+    piece: &mut Vec<u8>,
+    mut long: LongRecord,
+) -> Result<(), Fault>
+    requires inside { value.place + value.len ≤ B.size records.old.reader.now.store }
+    requires begun { (first : _) × (key : List ℕ) × IsPart first maker.old key value.len [] long }
+    ensures same_reader { records.new.reader.ghost_name ≡ records.old.reader.ghost_name }
+    ensures stays { records.new.walking ≡ records.old.walking }
+    ensures reads { OnlyReads B.Store records.old.reader.now.store records.new.reader.now.store }
+    ensures puts { (first : _) (key : List ℕ) → IsPart first maker.old key value.len [] long
+        → OnOk result (PutsValue (B.image records.new.reader.now.store) first maker.new key value) }
+    ensures fails { IfErr result (λ f. (limit : ℕ) (walk : Walked) → NotAdded L.WORD limit walk f) }
+    ensures own { IfErr result IsOfMaking }
+    ensures step { (first : _) (key : List ℕ) → IsPart first maker.old key value.len [] long
+        → StepsOn first maker.new
+        (B.failures records.old.reader.now.store < B.failures records.new.reader.now.store) ⊥ result }
+{
+    let end = value.place + value.len;
+    while long.left() > 0 {
+        let len = long.left().min(MOST as u64);
+        let place = end - long.left();
+        records.value_into(Span { place, len }, piece)?;
+        // It has this length: `value_into` promises it only of a store with an image.
+        piece.resize(len as usize, 0)?;
+        maker.write_long(&mut long, piece)?;
+    }
+    maker.end_long(long);
+    Ok(())
+}
+
+/// Adds the record of a walk that has no room in a window.
+fn add_long_record<L: Width, S: Store, B: Store>(
+    maker: &mut Maker<S, L>,
+    records: &mut Walk<'_, B, L>,
+    pair: Pair,
+    room: &mut Room,
+) -> Result<(), Fault>
+    requires key { pair.key.place + pair.key.len ≤ B.size records.old.reader.now.store }
+    requires value { pair.value.place + pair.value.len ≤ B.size records.old.reader.now.store }
+    ensures same_reader { records.new.reader.ghost_name ≡ records.old.reader.ghost_name }
+    ensures stays { records.new.walking ≡ records.old.walking }
+    ensures reads { OnlyReads B.Store records.old.reader.now.store records.new.reader.now.store }
+    ensures ok { OnOk result (AddsRecord (B.image records.new.reader.now.store) pair
+        maker.old maker.new) }
+    ensures fails { IfErr result (RecordNotAdded (B.image records.new.reader.now.store) pair
+        maker.old maker.new) }
+    ensures step { StepsOn maker.old maker.new
+        (B.failures records.old.reader.now.store < B.failures records.new.reader.now.store) ⊥ result }
+    ensures own { IfErr result IsOfMaking }
+{
+    records.value_into(pair.key, &mut room.key)?;
+    if let Some(long) = maker.begin_long(&room.key, pair.value.len)? {
+        return copy_value(maker, records, pair.value, &mut room.value, long);
+    }
+    records.value_into(pair.value, &mut room.value)?;
+    maker.put(Mode::Add, &room.key, &room.value)?;
+    Ok(())
 }
 
 /// Adds the next records of a walk: all that are whole in the window, as they are, or the next one
@@ -70,9 +135,7 @@ fn add_next<L: Width, S: Store, B: Store>(
     let Some(pair) = records.next()? else {
         return Ok(false);
     };
-    records.value_into(pair.key, &mut room.key)?;
-    records.value_into(pair.value, &mut room.value)?;
-    maker.put(Mode::Add, &room.key, &room.value)?;
+    add_long_record(maker, records, pair, room)?;
     Ok(true)
 }
 
