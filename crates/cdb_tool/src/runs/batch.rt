@@ -1,5 +1,6 @@
 // Records of an input that wait to be put, as a file has them: so many of them are written at once.
-ghost use Rattle.std.specs.Prelude.{◌≡◌, ◌+◌, ◌≤◌, ◌^◌, ◌++◌, ◌∷◌, [], List, true, false, take, vec_len, OnOk};
+ghost use Rattle.std.specs.Prelude.{◌≡◌, ◌+◌, ◌*◌, ◌<◌, ◌≤◌, ◌^◌, ◌++◌, ◌∷◌, [], List, true, false, take, vec_len, OnOk};
+ghost use Rattle.std.specs.Bool.{Decides};
 ghost use Rattle.cdb_form.specs.Format.{KeyValue};
 ghost use Rattle.cdb_form.specs.Views.Fill.{HasRoom};
 ghost use Rattle.cdb_form.specs.Views.Pairs.{key_value};
@@ -53,6 +54,13 @@ impl<L: Width> Batch<L> {
         ensures { result.now ≡ take self.now.held self.now.bytes.items }
     {
         &self.bytes[..self.held]
+    }
+
+    /// Returns true if the records take more than half of the room.
+    pub(crate) fn is_full(&self) -> bool
+        ensures { Decides result (vec_len self.now.bytes < 2 * self.now.held) }
+    {
+        self.held > self.bytes.len() / 2
     }
 
     /// Takes the records that an input has at hand, as long as there is room.

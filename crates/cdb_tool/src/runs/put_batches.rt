@@ -166,7 +166,12 @@ impl Puts<'_> {
         match put_mode(&self.options.make) {
             Mode::Add => Ok(()),
             Mode::Warn | Mode::Insert | Mode::Replace => {
-                self.put_waiting(maker, input, line, batch, errors)
+                let was_full = batch.is_full();
+                self.put_waiting(maker, input, line, batch, errors)?;
+                if was_full {
+                    batch.grow()?;
+                }
+                Ok(())
             }
         }
     }
