@@ -25,7 +25,7 @@ const AT_ONCE: usize = 65536;
 struct Room {
     /// The records that are copied as they are.
     window: Vec<u8>,
-    /// The key and the value of a record that is longer.
+    /// The key of a record that is longer, and its value or a piece of that.
     key: Vec<u8>,
     value: Vec<u8>,
 }
