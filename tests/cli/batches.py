@@ -4,9 +4,9 @@ near the border of two of them, or with a value that is read in pieces.
 
     tests/cli/batches.py PROGRAM
 
-A first batch has 4096 bytes, and a later one 128 KiB. A native text that is cut is refused, at its end, after the lines
-of all whole records, also amid a value of many pieces; a cut map text makes the database of what is left. If the file has no room for what waits, that is
-the error, and not the end of the text. An input may come a byte at a time. The lines of the duplicates that came are
+A first batch has 4096 bytes, and each later one twice as many, up to 128 KiB. A native text that is cut is refused, at
+its end, after the lines of all whole records, also amid a value of several pieces; a cut map text makes the database of
+what is left. If the file has no room for what waits, that is the error, and not the end of the text. An input may come a byte at a time. The lines of the duplicates that came are
 written before the create waits for more, but for those that its 4096 bytes of lines have room for. With -v each
 duplicate is told with the line at which it begins.
 """
@@ -28,6 +28,10 @@ from rows import HANGS
 from waiting import is_asleep
 
 FIRST, MOST = 4096, 128 << 10
+# A batch is put once the next record and so many bytes more may have no room in it.
+SPARE = 64
+# Which borders of two batches of the records are tried.
+TRIED = (0, 1, 4)
 RECORDS = [(b"key %06d" % it, b"%d is the value" % it) for it in range(4000)]
 DUPLICATE = b"cdb: input 1: record %d: duplicate key\n"
 STOPPED = b"cdb: stopped at a duplicate key\n"
@@ -38,8 +42,8 @@ LINES = 4096
 # A file has no more bytes where its size is limited.
 ROOM = 10_000
 FULL = b"cdb: database cannot be read or written\n"
-# A value of more than MOST bytes is read in pieces, an input by windows.
-PIECE, WINDOW = 4096, 64 << 10
+# A value of more than MOST bytes is read in pieces of as many at most, an input by windows.
+WINDOW = 64 << 10
 LONG = b"".join(b"%07d\n" % it for it in range(40_000))
 
 
@@ -49,14 +53,16 @@ def size_of(record):
 
 
 def borders(records):
-    """The numbers of the records with which the first batch and the next one are about full."""
-    found, total, wanted = [], 0, [FIRST, FIRST + MOST]
+    """The numbers of the records with which some batches are about full. The first ends with the first window, of as
+    many bytes of text."""
+    found, held, room = [], 0, FIRST
     for number, record in enumerate(records):
-        total += size_of(record)
-        if wanted and total > wanted[0]:
+        size = size_of(record) if found else len(text_of([record])) - 1
+        if held + size + SPARE > room:
             found.append(number)
-            wanted.pop(0)
-    return found
+            held, room, size = 0, 2 * room, size_of(record)
+        held += size
+    return [found[it] for it in TRIED]
 
 
 def repeated(records, wanted):
@@ -112,12 +118,12 @@ def map_rows(program, folder):
     """Creates of a map text that is cut near a border."""
     lines = [b"%s %s\n" % (key.replace(b" ", b"_"), value) for key, value in RECORDS]
     records = [tuple(it[:-1].split(b" ", 1)) for it in lines]
-    for border in borders(records):
-        start = sum(map(len, lines[:border]))
-        text = b"".join(lines[: border + 1])
+    for number in (border + more for border in borders(records) for more in range(2 * ROUND)):
+        start = sum(map(len, lines[:number]))
+        text = b"".join(lines[: number + 1])
         for place in range(start, len(text)):
             last = [tuple((text[start:place].rstrip(b"\n").split(b" ", 1) + [b""])[:2])] if place > start else []
-            made = file_of([*records[:border], *last])
+            made = file_of([*records[:number], *last])
             yield f"-cm up to byte {place}", run(program, ["-cm", "x"], text[:place], folder), (0, b"", made)
 
 
@@ -163,7 +169,7 @@ def full_rows(program, folder):
 
 def length_rows(program, folder):
     """Creates with a value of each length with which a record has just room in a batch, or has none."""
-    for most in (FIRST, MOST):
+    for most in (FIRST, 2 * FIRST, MOST):
         for length in range(most - 120, most + 12):
             records = [*RECORDS[:3], (b"long", b"v" * length), *RECORDS[3:6]]
             for words in (["-c", "x"], ["-cr", "x"]):
@@ -173,7 +179,7 @@ def length_rows(program, folder):
 
 def long_rows(program, folder):
     """Creates with a value that is read in pieces: once, twice, behind a record that is replaced, and removed."""
-    for length in (MOST, MOST + 1, MOST + PIECE, 3 * WINDOW + 1, len(LONG)):
+    for length in (MOST, MOST + 1, 2 * MOST, 3 * WINDOW + 1, len(LONG)):
         one, other = (b"long", LONG[:length]), (b"long", LONG[-length:])
         once = [*RECORDS[:3], one, *RECORDS[3:6]]
         twice = [*RECORDS[:3], one, RECORDS[1], other, *RECORDS[3:6]]
@@ -201,7 +207,7 @@ def long_cut_rows(program, folder):
     text = text_of([*RECORDS[:3], (b"long", LONG), *RECORDS[3:6]])
     start = text.index(LONG)
     end = start + len(LONG)
-    borders = {start, end, *(start + it for it in range(PIECE, len(LONG), 16 * PIECE)), *range(WINDOW, end, 2 * WINDOW)}
+    borders = {start, end, *(start + it for it in range(WINDOW, len(LONG), WINDOW)), *range(WINDOW, end, 2 * WINDOW)}
     places = {place + more for place in borders for more in (-2, -1, 0, 1, 2)} | set(range(start - 20, start))
     for place in sorted(places):
         ends = b"cdb: input 1: byte %d: %s\n" % (place, EARLY.encode())
@@ -218,7 +224,7 @@ def long_cut_rows(program, folder):
 
 def slow_rows(program, folder):
     """Creates of inputs that come a byte at a time."""
-    records = [*RECORDS[: borders(RECORDS)[1] + 9], (b"long", LONG[: MOST + PIECE + 9].replace(b"\n", b"n")), (b"end", b"")]
+    records = [*RECORDS[: borders(RECORDS)[-1] + 9], (b"long", LONG[: MOST + WINDOW + 9].replace(b"\n", b"n")), (b"end", b"")]
     lines = b"".join(b"%s %s\n" % (key.replace(b" ", b"_"), value) for key, value in records)
     mapped = [(key.replace(b" ", b"_"), value) for key, value in records]
     for words, text, all_records in ((["-c", "x"], text_of(records), records), (["-cw", "x"], text_of(records), records), (["-cm", "x"], lines, mapped)):

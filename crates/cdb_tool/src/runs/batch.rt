@@ -10,7 +10,7 @@ use cdb_show::ItemReader;
 use std::alloc::{AllocError, Global};
 use std::marker::PhantomData;
 
-/// The number of bytes of a batch that was full for the first time.
+/// The number of bytes that a batch has at first, once a record came.
 const FIRST: usize = 4096;
 
 /// The number of bytes that a batch has at most. They are more than a store's buffer has, so they
@@ -116,13 +116,13 @@ impl<L: Width> Batch<L> {
         Ok(())
     }
 
-    /// Makes room for more records at once. None waits.
+    /// Makes room for twice as many bytes, up to the most. No record waits.
     pub(crate) fn grow(&mut self) -> Result<(), AllocError>
         requires { HoldsBatch L.WORD L.TOP self.old [] }
         ensures none { HoldsBatch L.WORD L.TOP self.new [] }
         ensures done { self.new.done ≡ self.old.done }
     {
-        let size = if self.bytes.is_empty() { FIRST } else { MOST };
+        let size = self.bytes.len().saturating_mul(2).max(FIRST).min(MOST);
         self.reserve(size)
     }
 }

@@ -145,8 +145,8 @@ impl Puts<'_> {
         put
     }
 
-    /// Puts the records that wait, but if they are only added: of those no word is said, and they wait
-    /// for a whole batch.
+    /// Puts the records that wait. Added ones, of which no word is said, wait on until they take more
+    /// than half of the room.
     fn put_or_wait<L: Width, S: Store, E: Sink>(
         &self,
         maker: &mut Maker<S, L>,
@@ -163,17 +163,15 @@ impl Puts<'_> {
         ensures own { IfErr result IsOfMaking }
         ensures step { StepsOn maker.old maker.new ⊥ (E.failed errors.new) result }
     {
-        match put_mode(&self.options.make) {
-            Mode::Add => Ok(()),
-            Mode::Warn | Mode::Insert | Mode::Replace => {
-                let was_full = batch.is_full();
-                self.put_waiting(maker, input, line, batch, errors)?;
-                if was_full {
-                    batch.grow()?;
-                }
-                Ok(())
-            }
+        let is_full = batch.is_full();
+        if !is_full && put_mode(&self.options.make) == Mode::Add {
+            return Ok(());
         }
+        self.put_waiting(maker, input, line, batch, errors)?;
+        if is_full {
+            batch.grow()?;
+        }
+        Ok(())
     }
 
     /// Lets a record wait behind the others, and returns true, if there is room, and unless a
