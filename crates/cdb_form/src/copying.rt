@@ -5,6 +5,9 @@ ghost use Rattle.cdb_form.specs.Format.{AreBytes};
 use std::alloc::AllocError;
 use std::simd::prelude::*;
 
+/// From how many bytes on a call of the library copies faster than a loop here.
+const MANY: usize = 256;
+
 /// Copies bytes over what a vector holds. If the lengths are equal, it does not look at the
 /// vector's room.
 #[inline(always)]
@@ -31,13 +34,17 @@ fn copy_64(from: &[u8], into: &mut [u8])
     u8x32::from_slice(&from[32..]).copy_to_slice(&mut into[32..]);
 }
 
-/// Copies `len` bytes, and up to 64 after them.
+/// Copies `len` bytes, and up to 64 after them if they are few.
 #[inline(always)]
 pub(crate) fn copy_past(from: &[u8], into: &mut [u8], len: usize)
     requires from { len + 64 ≤ length from.now }
     requires into { len + 64 ≤ length into.old }
     ensures { take len into.new ≡ take len from.now }
 {
+    if MANY < len {
+        into[..len].copy_from_slice(&from[..len]);
+        return;
+    }
     copy_64(from, into);
     let mut done = 64;
     while done < len {
