@@ -70,6 +70,7 @@ pub(crate) fn take_span<S: Store>(
     ensures reads { OnlyReads S.Store store.old store.new }
     ensures is { (b : List ℕ) → S.image store.new b
         → OnOk result (into.new.items ≡ bytes_of b span) }
+    ensures long { OnOk result (length into.new.items ≡ span.len) }
     ensures fails { IfErr result (ValueFails S.Store store.old store.new) }
 {
     into.clear();

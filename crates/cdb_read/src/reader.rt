@@ -1,5 +1,5 @@
 // A reader of a database in a store.
-ghost use Rattle.std.specs.Prelude.{◌≡◌, ℕ, ◌+◌, ◌<◌, ◌≤◌, ◌^◌, List, IfOk, IfErr, OnOk};
+ghost use Rattle.std.specs.Prelude.{◌≡◌, ℕ, ◌+◌, ◌<◌, ◌≤◌, ◌^◌, List, IfOk, IfErr, OnOk, length};
 ghost use Rattle.cdb_form.specs.Format.{head_size, head_at};
 ghost use Rattle.cdb_form.specs.Views.Pairs.{head_pairs};
 ghost use Rattle.cdb_form.specs.Views.KnownBytes.{Writes};
@@ -131,6 +131,7 @@ impl<S: Store, L: Width> Reader<S, L> {
         ensures reads { OnlyReads S.Store self.old.store self.new.store }
         ensures is { (b : List ℕ) → S.image self.new.store b
             → OnOk result (into.new.items ≡ bytes_of b span) }
+        ensures long { OnOk result (length into.new.items ≡ span.len) }
         ensures fails { IfErr result (ValueFails S.Store self.old.store self.new.store) }
     {
         self.window.len = 0;

@@ -1,9 +1,8 @@
 -- A base whose records are added to a maker, one after the other.
 use Rattle.cdb_tool.proofs.Words.{Bool, Damage, Err, FailsPutting, Fault, Follows, Ghosts, Holds, KeyValue, List, MakeFault, Maker, None, Ok, OnlyReads, OutputSays, Put, Puts, ReadFault, Result, Some, WhereHonest, [], ap, append_assoc, arith, false, file_size, holds_fits, length, length-append, limit_of, reads_nothing, record_in, refl, subst, sym, take, true, true≢false, ℕ, ◌++◌, ◌+◌, ◌<◌, ◌∙◌, ◌∷◌, ◌≡◌, ◌≤◌, ◌⊎◌}
 use Rattle.std.proofs.Math.Seq.{drop-drop, take-add, take-append_seam}
-use Rattle.std.proofs.Common.{Global, Vec}
-use Rattle.std.specs.Prelude.{IfErr, drop, replicate, ◌-◌}
-use Rattle.std.proofs.lemmas.List.{append-nil, length-take, take_all}
+use Rattle.std.specs.Prelude.{IfErr, drop}
+use Rattle.std.proofs.lemmas.List.{append-nil, length-take}
 use Rattle.cdb_form.specs.declared.width.Width.{Ghosts as Widths}
 use Rattle.cdb_form.specs.Format.{Walked, walk_of, whole_records, damaged, no_walk, with_first, with_records}
 use Rattle.cdb_form.proofs.Files.WalkSteps.{walk_of-short}
@@ -21,7 +20,6 @@ use Rattle.cdb_read.specs.declared.fault.ReadFault.TheVariants as read
 use Rattle.cdb_read.specs.declared.walking.records.Walk.{Walk}
 use Rattle.cdb_read.specs.declared.span.Pair.{Pair}
 use Rattle.cdb_read.specs.declared.span.Span.{Span}
-use Rattle.cdb_read.proofs.Walked.WalkedLengths.{length_of}
 use Rattle.cdb_show.specs.Views.Fault.{read_fault, make_fault}
 use Rattle.cdb_tool.specs.Runs.Make.{AddsBase, AddsNext, AddsRecord, BaseFails, IsOfBase, NotAdded, PutsValue, RecordNotAdded, StepsOn}
 
@@ -115,18 +113,12 @@ pub long_added : {S L : Type 0} {s : Ghosts S} {l : Widths L} (images : List ℕ
 long_added images m now pair key is x = record_added images m now pair key x.value Added is x.is x.puts
 
 -- a piece of a value was read after what was read of it
-pub span_piece : (b got piece : List ℕ) (value next : Span) → got ≡ take (length got) (drop value.place b) → piece ≡ bytes_of b next → next.place ≡ value.place + length got → next.place + next.len ≤ length b → got ++ piece ≡ take (length (got ++ piece)) (drop value.place b)
-span_piece b got piece value next so is at inside =
+pub span_piece : (b got piece : List ℕ) (value next : Span) → got ≡ take (length got) (drop value.place b) → piece ≡ bytes_of b next → next.place ≡ value.place + length got → length piece ≡ next.len → got ++ piece ≡ take (length (got ++ piece)) (drop value.place b)
+span_piece b got piece value next so is at size =
     let k = length got in
     let more : piece ≡ take next.len (drop k (drop value.place b)) = is ∙ ap (λ n. take next.len (drop n b)) at ∙ ap (take next.len) (sym (drop-drop k value.place b)) in
-    let long : length (got ++ piece) ≡ k + next.len = length-append got piece ∙ ap (λ n. k + n) (ap length is ∙ length_of b next inside) in
+    let long : length (got ++ piece) ≡ k + next.len = length-append got piece ∙ ap (λ n. k + n) size in
     ap (λ x. x ++ piece) so ∙ ap (λ y. take k (drop value.place b) ++ y) more ∙ sym (take-add k next.len (drop value.place b)) ∙ ap (λ n. take n (drop value.place b)) (sym long)
-
--- its vector had as many bytes already
-pub same_length : (n : ℕ) (v : Vec ℕ Global) → length v.items ≡ n → take n v.items ++ replicate (n - v.len) 0 ≡ v.items
-same_length n v is =
-    let none : n - v.len ≡ 0 = omega (arith, v.ok, is) in
-    ap (λ k. take n v.items ++ replicate k 0) none ∙ append-nil (take n v.items) ∙ take_all n v.items (omega (arith, is))
 
 -- none was left
 pub none_added : {S L : Type 0} {s : Ghosts S} {l : Widths L} (w : ℕ) (images : List ℕ → Type 0) (left rest : List ℕ → Walked) (m : Maker S L s l) → ((b : List ℕ) → images b → left b ≡ no_walk) → ((b : List ℕ) → images b → rest b ≡ no_walk) → AddsNext w images left rest m m false

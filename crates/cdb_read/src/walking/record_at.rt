@@ -1,5 +1,5 @@
 // The record at a place.
-ghost use Rattle.std.specs.Prelude.{◌≡◌, ◌<◌, IfOk, IfErr};
+ghost use Rattle.std.specs.Prelude.{◌<◌, IfOk, IfErr};
 ghost use Rattle.cdb_store.specs.Reads.{OnlyReads};
 ghost use Rattle.cdb_read.specs.Views.Reads.{StoreFails};
 ghost use Rattle.cdb_read.specs.Views.Walking.{StandsAt, StandsWithin};

@@ -1,5 +1,5 @@
 // A walk over the records of a database.
-ghost use Rattle.std.specs.Prelude.{◌≡◌, ℕ, ◌+◌, ◌<◌, ◌≤◌, List, IfOk, IfErr, MatchOption, Ok, Err, None, OnOk};
+ghost use Rattle.std.specs.Prelude.{◌≡◌, ℕ, ◌+◌, ◌<◌, ◌≤◌, List, IfOk, IfErr, MatchOption, Ok, Err, None, OnOk, length};
 ghost use Rattle.cdb_read.specs.Lookup.{bytes_of};
 ghost use Rattle.cdb_store.specs.Reads.{OnlyReads};
 ghost use Rattle.cdb_read.specs.Views.Reads.{ValueFails};
@@ -120,6 +120,7 @@ impl<'a, S: Store, L: Width> Walk<'a, S, L> {
         ensures reads { OnlyReads S.Store self.old.reader.now.store self.new.reader.now.store }
         ensures is { (b : List ℕ) → S.image self.new.reader.now.store b
             → OnOk result (into.new.items ≡ bytes_of b span) }
+        ensures long { OnOk result (length into.new.items ≡ span.len) }
         ensures fails { IfErr result
             (ValueFails S.Store self.old.reader.now.store self.new.reader.now.store) }
     {

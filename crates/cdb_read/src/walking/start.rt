@@ -1,5 +1,5 @@
 // The start of a walk, and its next records.
-ghost use Rattle.std.specs.Prelude.{◌≡◌, ℕ, ◌+◌, ◌<◌, ◌≤◌, List, IfOk, IfErr, OnOk};
+ghost use Rattle.std.specs.Prelude.{◌≡◌, ℕ, ◌+◌, ◌<◌, ◌≤◌, List, IfOk, IfErr, OnOk, length};
 ghost use Rattle.cdb_form.specs.Format.{walk_of, head_size};
 ghost use Rattle.cdb_read.specs.Lookup.{bytes_of};
 ghost use Rattle.cdb_store.specs.Reads.{OnlyReads};
@@ -51,6 +51,7 @@ impl<S: Store, L: Width> Reader<S, L> {
         ensures reads { OnlyReads S.Store self.old.store self.new.store }
         ensures is { (b : List ℕ) → S.image self.new.store b
             → OnOk result (into.new.items ≡ bytes_of b span) }
+        ensures long { OnOk result (length into.new.items ≡ span.len) }
         ensures fails { IfErr result (ValueFails S.Store self.old.store self.new.store) }
     {
         if self.window.covers(span.place, span.len) {

@@ -5,9 +5,7 @@ ghost use Rattle.cdb_form.specs.Format.{KeyValue, Walked, with_records};
 ghost use Rattle.cdb_make.specs.Views.Long.{IsPart};
 ghost use Rattle.cdb_make.specs.Views.Maker.{Holds, WhereHonest, limit_of, store_of};
 ghost use Rattle.cdb_read.specs.Views.Walking.{left_of, bytes_left};
-ghost use Rattle.cdb_show.specs.Views.Output.{OutputSays};
 ghost use Rattle.cdb_tool.specs.Runs.Make.{AddsNext, AddsRecord, NotAdded, PutsValue, RecordNotAdded, BaseFails, HandsBack, BaseHasFailed, IsOfMaking, StepsOn, AddsBase, HoldsBase, BaseStopped};
-ghost use Rattle.cdb_show.specs.declared.fault.Fault.TheVariants.{NoMemory};
 
 use crate::runs::batch::MOST;
 use cdb_form::Width;
@@ -69,8 +67,6 @@ fn copy_value<L: Width, S: Store, B: Store>(
         let len = long.left().min(MOST as u64);
         let place = end - long.left();
         records.value_into(Span { place, len }, piece)?;
-        // It has this length: `value_into` promises it only of a store with an image.
-        piece.resize(len as usize, 0)?;
         maker.write_long(&mut long, piece)?;
     }
     maker.end_long(long);

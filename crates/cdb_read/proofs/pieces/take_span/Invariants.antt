@@ -7,6 +7,7 @@ invariant-loop-done g l = record {
   within : l.done ≤ l.span.len;
   piece : length l.piece ≡ length l.fn.piece;
   reads : OnlyReads g.S.Store l.fn.store l.store;
+  long : length l.into.items ≡ l.done;
   taken : HasTaken l.span.place l.done l.into.items (g.S.Store.image l.store);
 }
 

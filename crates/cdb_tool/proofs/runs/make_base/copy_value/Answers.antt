@@ -1,9 +1,7 @@
-use Rattle.cdb_tool.proofs.Words.{ap, arith, err_from_is_err_and, follows_then, length, length-append, reads_more, take, ◌++◌, ◌+◌, ◌∙◌, ◌≡◌, ◌≤◌}
+use Rattle.cdb_tool.proofs.Words.{ap, arith, err_from_is_err_and, follows_then, length, length-append, reads_more, take, ◌++◌, ◌+◌, ◌∙◌, ◌≡◌}
 use Rattle.std.specs.Prelude.{drop, ◌-◌}
-use Rattle.cdb_read.proofs.Walked.WalkedLengths.{length_of}
-use Rattle.cdb_read.specs.Lookup.{bytes_of}
 use Rattle.cdb_read.specs.declared.span.Span.{Span}
-use Rattle.cdb_tool.proofs.BaseRecords.{long_stopped, same_length, span_piece, unread_anywhere, unread_base}
+use Rattle.cdb_tool.proofs.BaseRecords.{long_stopped, span_piece, unread_anywhere, unread_base}
 use Rattle.cdb_tool.proofs.LongValues.{long_step}
 use Rattle.cdb_tool.proofs.runs.make_base.copy_value.Goals as goal
 
@@ -34,18 +32,9 @@ returns-in_err-value_into-clause-step g c = λ first key part.
     let p = (inv.part first key part).1 in
     rw (e.1, e.2) (unread_base {s = g.S.Store} {l = g.L.Width} g.B.Store _ _ first c.loop-long.maker c.in_err-value_into.field-0.0 c.in_err-value_into.ensures.fails p.follows p.fine (λ more. omega (arith, more, inv.reads.failures)))
 
-pub returns-in_err-resize-clause-reads : goal.returns-in_err-resize-clause-reads
-returns-in_err-resize-clause-reads g c = reads_more c.loop-long.invariant.reads c.value_into.ensures.reads
-
-pub returns-in_err-resize-clause-step : goal.returns-in_err-resize-clause-step
-returns-in_err-resize-clause-step g c = λ first key part.
-    let e = err_from_is_err_and c.from_residual-in_err-resize.result c.from_residual-in_err-resize.ensures.1 in
-    let p = (c.loop-long.invariant.part first key part).1 in
-    rw (e.1, e.2) (record { follows = p.follows; failed = λ is. absurd is; memory = λ is. p.fine; fine = tt; base = λ is. absurd is; output = tt })
-
 pub write_long-requires-clause-room : goal.write_long-requires-clause-room
 write_long-requires-clause-room g c =
-    omega (arith, c.left-in-loop-long.ensures, c.min-len.ensures, ap length c.deref.ensures.value, c.resize.new.self.ok.0, c.in_ok-resize.ensures.len)
+    omega (arith, c.left-in-loop-long.ensures, c.min-len.ensures, ap length c.deref.ensures.value, c.in_ok-value_into.ensures.long)
 
 pub write_long-requires-clause-begun : goal.write_long-requires-clause-begun
 write_long-requires-clause-begun g c =
@@ -58,7 +47,7 @@ loop-long-smaller g c =
     let h = c.requires.begun in
     let p = c.loop-long.invariant.part h.0 h.1 h.2 in
     let q = c.in_ok-write_long.ensures.ok h.0 h.1 c.args.value.len p.0 p.1 in
-    omega (arith, p.1.end, p.1.last, q.end, q.last, length-append p.0 c.deref.result.now, c.left-in-loop-long.ensures, c.min-len.ensures, c.left.ensures, c.loop-long-test.true, ap length c.deref.ensures.value, c.resize.new.self.ok.0, c.in_ok-resize.ensures.len)
+    omega (arith, p.1.end, p.1.last, q.end, q.last, length-append p.0 c.deref.result.now, c.left-in-loop-long.ensures, c.min-len.ensures, c.left.ensures, c.loop-long-test.true, ap length c.deref.ensures.value, c.in_ok-value_into.ensures.long)
 
 pub loop-long-preserved : goal.loop-long-preserved
 loop-long-preserved g c =
@@ -71,16 +60,10 @@ loop-long-preserved g c =
       part = λ first key part.
           let p = inv.part first key part in
           let next : Span = record { place = c.args.value.place + c.args.value.len - c.left-in-loop-long-2.result; len = c.min-len.result } in
-          let left : c.left-in-loop-long-2.result + length p.0 ≡ c.args.value.len = omega (arith, p.1.end, p.1.last, c.left-in-loop-long-2.ensures) in
-          let inside : next.place + next.len ≤ g.B.Store.size c.value_into.new.self.reader.now.store = omega (arith, left, c.left-in-loop-long-2.ensures, c.left-in-loop-long.ensures, c.min-len.ensures, c.requires.inside, inv.reads.size, e.reads.size) in (
+          let left : c.left-in-loop-long-2.result + length p.0 ≡ c.args.value.len = omega (arith, p.1.end, p.1.last, c.left-in-loop-long-2.ensures) in (
             p.0 ++ c.deref.result.now,
             c.in_ok-write_long.ensures.ok first key c.args.value.len p.0 p.1,
-            λ b i.
-                let all : length b ≡ g.B.Store.size c.value_into.new.self.reader.now.store = g.met.B.Store.image_size c.value_into.new.self.reader.now.store b i in
-                let fits : next.place + next.len ≤ length b = omega (arith, all, inside) in
-                let read : c.value_into.new.into.items ≡ bytes_of b next = c.in_ok-value_into.ensures.is b i in
-                let as_read : c.deref.result.now ≡ bytes_of b next = c.deref.ensures.value ∙ c.in_ok-resize.ensures.items ∙ same_length next.len c.value_into.new.into (ap length read ∙ length_of b next fits) ∙ read in
-                span_piece b p.0 c.deref.result.now c.args.value next (p.2 b (e.reads.images b i)) as_read (omega (arith, left)) fits,
+            λ b i. span_piece b p.0 c.deref.result.now c.args.value next (p.2 b (e.reads.images b i)) (c.deref.ensures.value ∙ c.in_ok-value_into.ensures.is b i) (omega (arith, left)) (ap length c.deref.ensures.value ∙ c.in_ok-value_into.ensures.long),
           );
     }
 
