@@ -3,7 +3,7 @@ use Rattle.cdb.proofs.Words.{Err, Ghosts, List, OutputSays, [], ap, arith, inl, 
 use Rattle.cdb_form.specs.Format.{head_size}
 use Rattle.cdb_read.specs.Views.Reads.{OpeningFails}
 use Rattle.cdb_read.specs.declared.fault.ReadFault.{ReadFault}
-use Rattle.cdb_read.specs.declared.fault.ReadFault.TheVariants.{Device, NoMemory, Output, Record, Short, Slot, Table, Twice, Unindexed}
+use Rattle.cdb_read.specs.declared.fault.ReadFault.TheVariants.{Device, Short}
 use Rattle.cdb_show.specs.Views.Fault.{read_fault}
 use Rattle.cdb_store.proofs.Reading.{reads_nothing}
 use Rattle.cdb_system.proofs.Coming.{short_is}

@@ -7,7 +7,8 @@ use Rattle.cdb_names.specs.declared.name_trace.NameCall.TheVariants as name_call
 use Rattle.cdb_store.specs.declared.raw.RawFile.{Ghosts as Raw}
 use Rattle.cdb_show.specs.declared.fault.Fault.TheVariants.{Open}
 use Rattle.cdb.proofs.Replaced.{IsGone, KeepsOthers, LeavesOldOrMade, ReplacesSo, at_name, none_appended, not_at, replaces_so, said_nothing}
-use Rattle.cdb.proofs.CreateReads.{AllKnown, Asking, asked_all, asked_kept, asking_all, moments_first}
+use Rattle.cdb.proofs.Asks.{Asking, read_asking, read_looked}
+use Rattle.cdb.proofs.CreateReads.{AllKnown, asked_kept, moments_first}
 use Rattle.cdb.proofs.CreateEnds.{AnsweredNames, Knows, Came, CreateSo, apart_is, based_is, ends_early, first_is, has_may, last_leaves, last_moment, lines_of, name_holds, open_so, oracle_is, other_name, result_of, same_name, same_some, since_asked}
 
 -- ---- in a temporary file
@@ -166,18 +167,18 @@ named_so s m r w g disk input name base inputs temporary o mid new file read lef
     let known = knows hands in
     let apart = apart_is name temporary in_place in
     let more = since_asked asked now replaces.moments.since replaces.moments.calls honest.alone in
-    let question = asked_all t base inputs was asked asks more in
+    let question = read_looked t base inputs false was asked asks more in
     let made = made_of w g o.make known.old known.files input in
-    let is = oracle_is s w g disk input name base inputs temporary o read left known standard in_place question.other named made refl in
+    let is = oracle_is s w g disk input name base inputs temporary o read left known standard in_place question.is named made refl in
     let zero : renames asked ≡ 0 = question.renamed ∙ ap renames honest.first in
     let mk : Making _ _ _ = record { word = w; greatest = g; options = o; base = file; inputs = left } in
     let so = replaces_so s r mk known.old known.files input t name asked now read told said result apart zero known.has known.known replaces in
-    let moments = moments_so w disk t name o made _ was asked now told said result apart is honest.first (asking_all t base inputs was asked asks) so in
+    let moments = moments_so w disk t name o made _ was asked now told said result apart is honest.first (read_asking t base inputs false was asked asks) so in
     let all = last_leaves disk _ (Some t) was now moments in
     record {
       answer = λ had has. finished m w disk t name o made _ asked now start end told said honest.held result apart is kept all honest.has so had;
       done = replaced_holds m w disk t name o made _ asked now told said result apart is all so;
-      failed = subst (λ out. OnErr result (AllByRecursion IsNoFailedRename now → KeepsAll disk out now)) (sym (passing_temporary name temporary standard in_place)) (failed_so w disk t name o made was asked now told said result honest.first (asking_all t base inputs was asked asks) so);
+      failed = subst (λ out. OnErr result (AllByRecursion IsNoFailedRename now → KeepsAll disk out now)) (sym (passing_temporary name temporary standard in_place)) (failed_so w disk t name o made was asked now told said result honest.first (read_asking t base inputs false was asked asks) so);
       moments = subst (λ out. AtEachMoment (LeavesAll disk out (create_of w g disk input name base inputs temporary o.make).disk) was now) (sym (passing_temporary name temporary standard in_place)) moments;
     }
 
@@ -214,7 +215,7 @@ no_name_so : {F I J M R : Type 0} {mid new : OpenCalls} (s : Ghosts F) (m : Ghos
     → CreateSo m disk name temporary o (create_of w g disk input name base inputs temporary o.make) [] was now None start end told said result
 no_name_so s m r w g disk input name base inputs temporary o mk read left was asked now start end told said result standard in_place is known first kept asks replaces =
     let c = create_of w g disk input name base inputs temporary o.make in
-    let a = asking_all (temporary_of name temporary) base inputs was asked asks in
+    let a = read_asking (temporary_of name temporary) base inputs false was asked asks in
     elim replaces.no_name [
       | inl named ↦ absurd (named (no_name_is name is))
       | inr ended ↦ (let silent = silent_so s r mk (temporary_of name temporary) name asked now read told said replaces.answer ended.1 ended.0 replaces.lines in

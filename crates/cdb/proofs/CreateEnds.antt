@@ -1,8 +1,8 @@
 -- What a create comes to that makes nothing, and what each name has then.
 use Rattle.cdb.proofs.CreateTaken.{MayGiveUpCreate}
-use Rattle.cdb.proofs.Words.{AllByRecursion, Answer, Appends, AppendsPrefix, AtEach, AtEachMoment, Bool, Err, Fault, Feed, Ghosts, HandsBack, Has, InputsTaken, Keeps, List, Made, MayHave, NameCalls, NameFault, None, Ok, OnErr, OnOk, OpenCalls, Option, Result, RunOptions, Some, State, [], ap, append_assoc, append_cancel_right, arith, bytes_eq, bytes_eq-Decides, codes, false, files_of, inl, inr, length, length-append, made_file, made_lines, made_of, option_map, refl, subst, sym, temporary_of, true, ℕ, ◌++◌, ◌||◌, ◌∙◌, ◌∷◌, ◌≡◌, ◌≢◌, ◌⊎◌}
+use Rattle.cdb.proofs.Words.{AllByRecursion, Appends, AppendsPrefix, AtEach, AtEachMoment, Bool, Err, Fault, Feed, Ghosts, HandsBack, Has, InputsTaken, Keeps, List, Made, MayHave, NameCalls, NameFault, None, Ok, OnErr, OnOk, OpenCalls, Option, Result, RunOptions, Some, State, [], ap, append_assoc, append_cancel_right, arith, bytes_eq, bytes_eq-Decides, codes, false, files_of, inl, inr, length, length-append, made_file, made_lines, made_of, option_map, refl, subst, sym, temporary_of, true, ℕ, ◌++◌, ◌||◌, ◌∙◌, ◌∷◌, ◌≡◌, ◌≢◌, ◌⊎◌}
 use Rattle.cdb_system.specs.Opening.{unopened as unopened_fault}
-use Rattle.std.proofs.lemmas.Bool.{cond-true, cond-false, false_from_ne_true, or_from, or_left, or_parts, or_right}
+use Rattle.std.proofs.lemmas.Bool.{cond-true, cond-false, false_from_ne_true, or_from, or_left, or_parts}
 use Rattle.cdb_names.specs.declared.answer.Answer.TheVariants as looks
 use Rattle.cdb_names.specs.declared.refusal.Cause.{Cause}
 use Rattle.cdb_names.specs.declared.name_fault.NameFault.TheVariants as why
@@ -10,17 +10,18 @@ use Rattle.cdb_names.specs.declared.name_trace.NameCall.TheVariants as name_call
 use Rattle.cdb_read.proofs.FoundSoFar.{reads_none}
 use Rattle.cdb_store.specs.declared.raw.RawFile.{Ghosts as Raw}
 use Rattle.cdb_show.specs.declared.fault.Fault.TheVariants.{NoMemory, Open}
-use Rattle.cdb.specs.Created.{Created, base_in, base_of, create_of, if_based, if_opened, in_temporary, is_base, is_in_place, is_input, is_no_name, in_place, is_read, placed, unmade, unopened}
-use Rattle.cdb.specs.Creating.{AsksBase, AsksOne, FindsBase, FindsInput, FindsOne, LooksAtBase, Making, MayBeOne, NotOpened, Replaces}
+use Rattle.cdb.specs.Created.{Created, base_in, base_of, create_of, if_based, if_opened, in_temporary, is_in_place, is_no_name, in_place, is_read, placed, unmade, unopened}
+use Rattle.cdb.specs.Creating.{LooksAtBase, Making, NotOpened, Replaces}
 use Rattle.cdb_system.specs.Answered.{AreAnswered, IsAnswered, if_some}
 use Rattle.cdb_system.specs.Oracle.{Disk, inputs_of, is_standard}
 use Rattle.cdb.specs.ForetoldCreate.{HadBytes, HasBytes, HoldsAll, IsNoAlias, IsNoFailedRemoval, IsNoFailedRename, KeepsAll, LeavesAll, passing, place_of}
-use Rattle.cdb_system.specs.Inputs.{inputs_read, MissesBase, StopsOpening}
+use Rattle.cdb_system.specs.Inputs.{MissesBase, StopsOpening}
 use Rattle.cdb_system.specs.declared.open_trace.OpenCall.TheVariants.{Unopened}
 use Rattle.cdb_system.specs.declared.system.System.{Ghosts as Systems}
 use Rattle.cdb.proofs.Replaced.{IsPlain, none_appended, said_nothing}
-use Rattle.cdb.proofs.CreateReads.{AllKnown, Asking, asked_kept, base_known, base_refused, base_since, moments_first, read_input}
-use Rattle.cdb_system.proofs.InputsKnown.{answered_before, opened_since, standard_not, missing_inputs, input_missing}
+use Rattle.cdb.proofs.Asks.{Asking}
+use Rattle.cdb.proofs.CreateReads.{AllKnown, asked_kept, base_known, base_refused, base_since, moments_first}
+use Rattle.cdb_system.proofs.InputsKnown.{answered_before, opened_since, missing_inputs, input_missing}
 
 -- ---- the oracle
 
@@ -272,48 +273,6 @@ module _ {F I J M N R Y : Type 0} (s : Ghosts F) (ms : Ghosts M) (feed : I → F
   ]
 
 -- ---- a file that is read has the temporary name
-
-alias_yes : (said : Answer) (one two : List ℕ) → said ≢ looks.No → IsNoAlias (name_call.Same said, one, two, []) → bytes_eq one two ≡ true
-alias_yes said one two h alone = (bytes_eq-Decides one two).1 (alone.1 h)
-
-pub record Found (is : Bool) (was now : NameCalls) : Type 0 where
-  pub one : is ≡ true
-  pub kept : (place : List ℕ → Bool) (first held : Option (List ℕ)) → MayHave place first now held → MayHave place first was held
-
-one_kept : (name file : List ℕ) (was now : NameCalls) → AsksOne name file was now → (place : List ℕ → Bool) (first held : Option (List ℕ)) → MayHave place first now held → MayHave place first was held
-one_kept name file was now (inl asked) place first held h = subst (λ c. MayHave place first c held) asked.1 h
-one_kept name file was now (inr asked) place first held h = subst (λ c. MayHave place first c held) asked.1 h
-
-base_kept : (name : List ℕ) (base : Option (List ℕ)) (was now : NameCalls) → AsksBase name base was now → (place : List ℕ → Bool) (first held : Option (List ℕ)) → MayHave place first now held → MayHave place first was held
-base_kept name None was now e place first held h = subst (λ c. MayHave place first c held) e h
-base_kept name (Some file) was now e place first held h = subst (λ c. MayHave place first c held) e h
-
-found_one : (name file : List ℕ) (was now : NameCalls) → MayBeOne name file was now → AllByRecursion IsNoAlias now → Found (bytes_eq name file) was now
-found_one name file was now (said, other, e) all =
-    record { one = alias_yes said name file other (subst (AllByRecursion IsNoAlias) e all).0; kept = λ place first held h. subst (λ c. MayHave place first c held) e h }
-
-found_input : (name : List ℕ) (files : List (List ℕ)) (was now : NameCalls) → FindsInput name files was now → AllByRecursion IsNoAlias now → Found (is_input name files) was now
-found_input name [] was now h all = absurd h
-found_input name (file ∷ files) was now (inl (inl (standard, (said, other, e)))) all =
-    absurd (other ((subst (AllByRecursion IsNoAlias) e all).0))
-found_input name (file ∷ files) was now (inl (inr here)) all =
-    let h = found_one name file was now here.1 all in
-    record { one = or_left _ _ (cond-false (is_standard file) _ _ (standard_not file here.0) ∙ h.one); kept = h.kept }
-found_input name (file ∷ files) was now (inr (mid, asks, more)) all =
-    let h = found_input name files mid now more all in
-    record { one = or_right _ _ h.one; kept = λ place first held may. one_kept name file was mid asks place first held (h.kept place first held may) }
-
-found_base : (name : List ℕ) (base : Option (List ℕ)) (was now : NameCalls) → FindsBase name base was now → AllByRecursion IsNoAlias now → Found (is_base name base) was now
-found_base name None was now h all = absurd h
-found_base name (Some file) was now h all = found_one name file was now h all
-
-pub found : (name : List ℕ) (base : Option (List ℕ)) (inputs : List (List ℕ)) (was now : NameCalls) → FindsOne name base inputs was now → AllByRecursion IsNoAlias now → Found (is_read name base inputs) was now
-found name base inputs was now (inl h) all =
-    let f = found_base name base was now h all in
-    record { one = or_left _ _ f.one; kept = f.kept }
-found name base inputs was now (inr (mid, asks, more)) all =
-    let f = found_input name (inputs_read inputs) mid now more all in
-    record { one = or_right _ _ (sym (read_input name inputs) ∙ f.one); kept = λ place first held may. base_kept name base was mid asks place first held (f.kept place first held may) }
 
 pub read_unopened : {F I J : Type 0} (s : Ghosts F) (w g : ℕ) (disk : Disk) (input name : List ℕ) (base : Option (List ℕ)) (inputs : List (List ℕ)) (temporary : Option (List ℕ)) (o : RunOptions) (read : Option F) (left : InputsTaken I J) → AllKnown s w disk base inputs input read left → is_standard name ≡ false → is_in_place name temporary ≡ false → is_read (temporary_of name temporary) base inputs ≡ true
     → create_of w g disk input name base inputs temporary o.make ≡ unopened disk

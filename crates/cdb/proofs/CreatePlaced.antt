@@ -15,7 +15,8 @@ use Rattle.cdb_system.specs.Opening.{Empties, MissesEmptying, OpenCalls, named_a
 use Rattle.cdb_system.specs.declared.system.System.{Ghosts as Systems}
 use Rattle.cdb.proofs.Agreeing.{InputsAgree}
 use Rattle.cdb.proofs.Replaced.{BaseHas, EndsSo, IsPlain, WasRefused, database_is, made_here, ran_err, ran_ok, whole_lines, none_appended, said_nothing}
-use Rattle.cdb.proofs.CreateReads.{AllKnown, Asking, asked_all, asking_all, asking_none, moments_first}
+use Rattle.cdb.proofs.Asks.{Asking, asking_none, read_asking, read_looked}
+use Rattle.cdb.proofs.CreateReads.{AllKnown, moments_first}
 use Rattle.cdb.proofs.CreateEnds.{AnsweredNames, Knows, Came, CameTrue, CreateSo, GaveUp, based_is, hands_unread, has_first, holds_first, keeps_first, same_name}
 
 -- ---- in place
@@ -171,10 +172,10 @@ pub emptied_so : {F I J M N R Y : Type 0} (s : Ghosts F) (m : Ghosts M) (feed : 
 emptied_so s m feed y w g disk input name base inputs temporary o mid emptied new file items left was now start end told said result standard placed_in knows honest kept asks empties h =
     let mk : Making _ _ _ = record { word = w; greatest = g; options = o; base = file; inputs = items } in
     let known = knows (back_of s mk left.read (m.image h.built) told said h.made h.run) in
-    let question = asked_all name base inputs was now asks honest.alone in
-    let a = asking_all name base inputs was now asks in
+    let question = read_looked name base inputs false was now asks honest.alone in
+    let a = read_asking name base inputs false was now asks in
     let c = create_of w g disk input name base inputs temporary o.make in
-    let is = in_place_is s w g disk input name base inputs temporary o left.read items known standard placed_in question.other (made_here mk known.old known.files input) refl in
+    let is = in_place_is s w g disk input name base inputs temporary o left.read items known standard placed_in question.is (made_here mk known.old known.files input) refl in
     let so : CreateSo m disk name temporary o c new was now (Some h.last) start end told said result = record {
       answer = λ had has. named_so m disk name o c emptied new now h.last start end told said h.synced result kept (synced_so s m disk name mk known.old known.files input left.read h.built h.last c new was now start end told said h.made h.synced has.0 honest.first a known.has known.known is kept h.run h.syncs h.has has.1) h.named;
       done = place_done s m disk name mk known.old known.files input left.read h.last c emptied new was now h.synced result honest.first a known.has known.known is h.has h.named;

@@ -1,7 +1,7 @@
 -- What a create reads, and what is looked up of its names, by the calls that were noted.
-use Rattle.std.proofs.Common.{ℕ, Bool, false, List, [], ◌∷◌, ◌++◌, Option, Some, None, IfSome, Result, Ok, Err, ◌≡◌, ◌⊎◌, ◌∙◌, ap, inl, inr, refl, subst, sym, append_assoc, append-nil, bytes_eq, option_map, if◌then◌else◌}
-use Rattle.std.specs.Prelude.{⊤, unwrap_or}
-use Rattle.cdb.proofs.Words.{AllByRecursion, AtEach, AtEachMoment, Fault, Feed, Ghosts, HandsBack, HonestCreate, Inputs, InputsTaken, IsNoAlias, LeavesAll, Left, MayHave, NameCalls, NameEvent, OpenCalls, Standard, append_cancel_right, bytes_eq-Decides, cond-false, cond-true, false_from_ne_true, files_of, inputs_taken, or_from, place_of, renames, state_of}
+use Rattle.std.proofs.Common.{ℕ, Bool, List, [], ◌∷◌, ◌++◌, Option, Some, None, IfSome, Result, Ok, Err, ◌≡◌, ◌⊎◌, ◌∙◌, ap, inl, inr, refl, subst, sym, append_assoc, append-nil, option_map}
+use Rattle.std.specs.Prelude.{unwrap_or}
+use Rattle.cdb.proofs.Words.{AllByRecursion, AtEach, AtEachMoment, Fault, Feed, Ghosts, HandsBack, HonestCreate, Inputs, InputsTaken, LeavesAll, Left, MayHave, NameCalls, NameEvent, OpenCalls, Standard, append_cancel_right, files_of, inputs_taken, place_of, state_of}
 use Rattle.cdb_names.specs.declared.answer.Answer.TheVariants as looks
 use Rattle.cdb_names.specs.declared.name_trace.NameCall.TheVariants as name_call
 use Rattle.cdb_show.specs.Feed.{IsUnread}
@@ -9,17 +9,18 @@ use Rattle.cdb_read.specs.declared.fault.ReadFault.TheVariants.{Device}
 use Rattle.cdb_show.specs.declared.fault.Fault.TheVariants.{Read}
 use Rattle.cdb.specs.Handing.{HandsInputs, OpensNone, OpensNoMore}
 use Rattle.cdb.proofs.Agreeing.{InputsAgree}
-use Rattle.cdb.specs.Created.{base_in, base_of, head_fault, is_base, is_input, is_read, unless_refused}
-use Rattle.cdb.specs.Creating.{AsksAll, AsksBase, AsksEach, AsksOne, FindsBase, FindsInput, FindsOne, LooksAtBase, OpensAll, SeesBase}
+use Rattle.cdb.proofs.Asks.{Asking, IsQuestion}
+use Rattle.cdb.specs.Created.{base_in, base_of, head_fault, unless_refused}
+use Rattle.cdb.specs.Creating.{LooksAtBase, OpensAll, SeesBase}
 use Rattle.cdb_system.specs.Answered.{AreAnswered, IsThere, Shows, if_some, stores_before, stores_in, streams_in}
-use Rattle.cdb_system.specs.Oracle.{Disk, inputs_of, is_standard}
+use Rattle.cdb_system.specs.Oracle.{Disk, inputs_of}
 use Rattle.cdb_system.specs.Inputs.{inputs_read, OpensBase, OpensEach}
 use Rattle.cdb_system.specs.State.{AgreeInTurn, Agrees, name_in_turn, names_in_turn, own_readers}
 use Rattle.cdb_system.specs.declared.open_trace.OpenCall.{OpenCall}
 use Rattle.cdb_system.specs.declared.open_trace.OpenCall.TheVariants.{AtPlaces, InTurn, Watched}
 use Rattle.cdb_system.specs.declared.system.System.{Ghosts as Systems}
 use Rattle.cdb.proofs.Replaced.{BaseHas}
-use Rattle.cdb_system.proofs.InputsKnown.{OpenedSince, answered_before, files_of_each, in_turn_then, inputs_are, inputs_since, opened_since, opened_there, own_names, standard_is, standard_not}
+use Rattle.cdb_system.proofs.InputsKnown.{OpenedSince, answered_before, files_of_each, in_turn_then, inputs_are, inputs_since, opened_since, opened_there, own_names}
 
 shown : {F : Type 0} (s : Ghosts F) (file : Option (List ℕ)) (read : Option F) → Shows s file (if_some read) → (b : List ℕ) × (file ≡ Some b) × BaseHas s read (Some b)
 shown s (Some b) (Some store) h = (b, refl, h.0)
@@ -189,112 +190,9 @@ module _ {F I J M N R Y : Type 0} (s : Ghosts F) (m : Ghosts M) (feed : I → Fe
         known = found.agree;
       }
 
--- ---- no file that is read has the temporary name
-
-no_alias_no : (one two : List ℕ) → IsNoAlias (name_call.Same looks.No, one, two, []) → bytes_eq one two ≡ false
-no_alias_no one two h = false_from_ne_true (bytes_eq one two) (λ e. h.0 refl ((bytes_eq-Decides one two).0 e))
-
-asked_one : (name file : List ℕ) (was now : NameCalls) → AsksOne name file was now → AllByRecursion IsNoAlias now → ((if is_standard file then false else bytes_eq name file) ≡ false) × AllByRecursion IsNoAlias was × (renames now ≡ renames was)
-    × ((place : List ℕ → Bool) (first held : Option (List ℕ)) → MayHave place first now held → MayHave place first was held)
-asked_one name file was now (inl asked) all =
-    (cond-true (is_standard file) _ _ (standard_is file asked.0), (subst (AllByRecursion IsNoAlias) asked.1 all).1, ap renames asked.1, λ place first held h. subst (λ c. MayHave place first c held) asked.1 h)
-asked_one name file was now (inr asked) all =
-    let here = subst (AllByRecursion IsNoAlias) asked.1 all in
-    (cond-false (is_standard file) _ _ (standard_not file asked.0) ∙ no_alias_no name file here.0, here.1, ap renames asked.1, λ place first held h. subst (λ c. MayHave place first c held) asked.1 h)
-
--- standard input, which is read if there are no names, is no file of a name
-pub read_input : (name : List ℕ) (inputs : List (List ℕ)) → is_input name (inputs_read inputs) ≡ is_input name inputs
-read_input name [] = refl
-read_input name (file ∷ files) = refl
-
--- what looking up comes to
-pub record Asked (is : Bool) (was now : NameCalls) : Type 0 where
-  pub other : is ≡ false
-  pub all : AllByRecursion IsNoAlias was
-  pub renamed : renames now ≡ renames was
-  pub kept : (place : List ℕ → Bool) (first held : Option (List ℕ)) → MayHave place first now held → MayHave place first was held
-
-asked_each : (name : List ℕ) (files : List (List ℕ)) (was now : NameCalls) → AsksEach name files was now → AllByRecursion IsNoAlias now → Asked (is_input name files) was now
-asked_each name [] was now e all = record { other = refl; all = subst (AllByRecursion IsNoAlias) e all; renamed = ap renames e; kept = λ place first held h. subst (λ c. MayHave place first c held) e h }
-asked_each name (file ∷ files) was now (mid, one, more) all =
-    let rest = asked_each name files mid now more all in
-    let first = asked_one name file was mid one rest.all in
-    record {
-      other = or_from _ _ first.0 rest.other;
-      all = first.1;
-      renamed = rest.renamed ∙ first.2;
-      kept = λ place f held h. first.3 place f held (rest.kept place f held h);
-    }
-
-asked_base : (name : List ℕ) (base : Option (List ℕ)) (was now : NameCalls) → AsksBase name base was now → AllByRecursion IsNoAlias now → Asked (is_base name base) was now
-asked_base name None was now e all = record { other = refl; all = subst (AllByRecursion IsNoAlias) e all; renamed = ap renames e; kept = λ place first held h. subst (λ c. MayHave place first c held) e h }
-asked_base name (Some file) was now e all =
-    let here = subst (AllByRecursion IsNoAlias) e all in
-    record { other = no_alias_no name file here.0; all = here.1; renamed = ap renames e; kept = λ place first held h. subst (λ c. MayHave place first c held) e h }
-
-pub asked_all : (name : List ℕ) (base : Option (List ℕ)) (inputs : List (List ℕ)) (was now : NameCalls) → AsksAll name base inputs was now → AllByRecursion IsNoAlias now → Asked (is_read name base inputs) was now
-asked_all name base inputs was now (mid, first, more) all =
-    let rest = asked_each name (inputs_read inputs) mid now more all in
-    let one = asked_base name base was mid first rest.all in
-    record { other = or_from _ _ one.other (sym (read_input name inputs) ∙ rest.other); all = one.all; renamed = rest.renamed ∙ one.renamed; kept = λ place f held h. one.kept place f held (rest.kept place f held h) }
-
 -- ---- what was looked up of names
 
-abbrev pub IsQuestion : NameEvent → Type 0
-IsQuestion (name_call.Same said, one, two, file) = ⊤
-IsQuestion (name_call.Input said, one, two, file) = ⊤
-IsQuestion (call, one, two, file) = ⊥
-
--- only that was, since
-pub record Asking (was now : NameCalls) : Type 0 where
-  pub since : NameCalls
-  pub are : now ≡ since ++ was
-  pub each : AllByRecursion IsQuestion since
-
-pub asking_none : (was now : NameCalls) → now ≡ was → Asking was now
-asking_none was now e = record { since = []; are = e; each = tt }
-
-all_both : {A : Type 0} (P : A → Type 0) (xs ys : List A) → AllByRecursion P xs → AllByRecursion P ys → AllByRecursion P (xs ++ ys)
-all_both P [] ys a b = b
-all_both P (x ∷ xs) ys a b = (a.0, all_both P xs ys a.1 b)
-
-asking_then : (was mid now : NameCalls) → Asking was mid → Asking mid now → Asking was now
-asking_then was mid now a b = record {
-  since = b.since ++ a.since;
-  are = b.are ∙ ap (λ c. b.since ++ c) a.are ∙ sym (append_assoc b.since a.since was);
-  each = all_both IsQuestion b.since a.since b.each a.each;
-}
-
-asking_one : (name file : List ℕ) (was now : NameCalls) → AsksOne name file was now → Asking was now
-asking_one name file was now (inl asked) = record { since = (name_call.Input looks.No, name, [], []) ∷ []; are = asked.1; each = (tt, tt) }
-asking_one name file was now (inr asked) = record { since = (name_call.Same looks.No, name, file, []) ∷ []; are = asked.1; each = (tt, tt) }
-
-asking_each : (name : List ℕ) (files : List (List ℕ)) (was now : NameCalls) → AsksEach name files was now → Asking was now
-asking_each name [] was now e = asking_none was now e
-asking_each name (file ∷ files) was now (mid, one, more) = asking_then was mid now (asking_one name file was mid one) (asking_each name files mid now more)
-
-asking_base : (name : List ℕ) (base : Option (List ℕ)) (was now : NameCalls) → AsksBase name base was now → Asking was now
-asking_base name None was now e = asking_none was now e
-asking_base name (Some file) was now e = record { since = (name_call.Same looks.No, name, file, []) ∷ []; are = e; each = (tt, tt) }
-
-pub asking_all : (name : List ℕ) (base : Option (List ℕ)) (inputs : List (List ℕ)) (was now : NameCalls) → AsksAll name base inputs was now → Asking was now
-asking_all name base inputs was now (mid, first, more) = asking_then was mid now (asking_base name base was mid first) (asking_each name (inputs_read inputs) mid now more)
-
-asking_found : (name : List ℕ) (files : List (List ℕ)) (was now : NameCalls) → FindsInput name files was now → Asking was now
-asking_found name [] was now h = absurd h
-asking_found name (file ∷ files) was now (inl (inl (standard, (said, other, e)))) = record { since = (name_call.Input said, name, [], []) ∷ []; are = e; each = (tt, tt) }
-asking_found name (file ∷ files) was now (inl (inr (other, (said, isnt, e)))) = record { since = (name_call.Same said, name, file, []) ∷ []; are = e; each = (tt, tt) }
-asking_found name (file ∷ files) was now (inr (mid, one, more)) = asking_then was mid now (asking_one name file was mid one) (asking_found name files mid now more)
-
-asking_found_base : (name : List ℕ) (base : Option (List ℕ)) (was now : NameCalls) → FindsBase name base was now → Asking was now
-asking_found_base name None was now h = absurd h
-asking_found_base name (Some file) was now (said, isnt, e) = record { since = (name_call.Same said, name, file, []) ∷ []; are = e; each = (tt, tt) }
-
-pub asking_finds : (name : List ℕ) (base : Option (List ℕ)) (inputs : List (List ℕ)) (was now : NameCalls) → FindsOne name base inputs was now → Asking was now
-asking_finds name base inputs was now (inl h) = asking_found_base name base was now h
-asking_finds name base inputs was now (inr (mid, first, more)) = asking_then was mid now (asking_base name base was mid first) (asking_found name (inputs_read inputs) mid now more)
-
--- that leaves each name as it is
+-- it leaves each name as it is
 question_kept : (call : NameEvent) (calls : NameCalls) → IsQuestion call → (place : List ℕ → Bool) (first held : Option (List ℕ)) → MayHave place first (call ∷ calls) held → MayHave place first calls held
 question_kept (name_call.Same said, one, two, file) calls is place first held h = h
 question_kept (name_call.Input said, one, two, file) calls is place first held h = h

@@ -1,6 +1,6 @@
 -- What may be refused of a create, an output too; and an output that was taken was not.
 use Rattle.cdb.proofs.Words.{Err, Fault, OutputSays, Result, subst, ◌≡◌}
-use Rattle.cdb_show.specs.declared.fault.Fault.TheVariants.{Text, Make, Duplicate, Missing, Read, Walk, Output, Long, Open, Rename, NoMemory, Old, New, NoOldTables, NoNewTables, NoBaseTables}
+use Rattle.cdb_show.specs.declared.fault.Fault.TheVariants.{Output}
 use Rattle.cdb.specs.ForetoldCreate.{IsCreateRefusal}
 
 -- of a create; or an output failed

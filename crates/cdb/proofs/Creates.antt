@@ -6,8 +6,9 @@ use Rattle.cdb.specs.Handing.{machine_of}
 use Rattle.cdb.specs.Creating.{Creates, HandsBase, Making, MakesAt}
 use Rattle.cdb_system.specs.State.{IsInPlace, temporary_of}
 use Rattle.cdb_system.specs.declared.system.System.{Ghosts as Systems}
-use Rattle.cdb.proofs.CreateReads.{all_found, asking_all, asking_finds, asking_none}
-use Rattle.cdb.proofs.CreateEnds.{AnsweredNames, CreateSo, Knows, back_hands, ends_early, found, hands_unread, memory_so, not_opened_so, open_so, read_unopened, refused_early}
+use Rattle.cdb.proofs.Asks.{asking_none, read_asking, read_looked}
+use Rattle.cdb.proofs.CreateReads.{all_found}
+use Rattle.cdb.proofs.CreateEnds.{AnsweredNames, CreateSo, Knows, back_hands, ends_early, hands_unread, memory_so, not_opened_so, open_so, read_unopened, refused_early}
 use Rattle.cdb.proofs.CreateApart.{replacing_so}
 use Rattle.cdb.proofs.CreatePlaced.{emptied_so, emptying_refused, in_place_unopened, output_so}
 
@@ -49,16 +50,16 @@ module _ {F I J M N R Y : Type 0} (s : Ghosts F) (m : Ghosts M) (r : Raw R) (fee
       (output_so s m w g disk input name base inputs temporary o file left.read items was now start end told said result (standard_is name at_output) knows honest calls makes)
   makes_so (inr (other, kept, inl (here, inl (finds, same, handed, is, silent)))) =
       let c = create_of w g disk input name base inputs temporary o.make in
-      let f = found name base inputs was now finds honest.alone in
+      let f = read_looked name base inputs true was now finds honest.alone in
       with_none m disk name temporary o c new was now file left start end told said result handed
       (subst (CreateSo m disk name temporary o c [] was now None start end told said) (sym is)
-      (ends_early m o c disk name temporary was now start end told said Open honest.first (asking_finds name base inputs was now finds)
-      (open_so o c disk start end told said (in_place_unopened s w g disk input name base inputs temporary o left.read items (knows (hands_unread s file left.read handed.read)) (standard_not name other) (in_place_now name temporary here) f.one) (kept, silent))))
+      (ends_early m o c disk name temporary was now start end told said Open honest.first (read_asking name base inputs true was now finds)
+      (open_so o c disk start end told said (in_place_unopened s w g disk input name base inputs temporary o left.read items (knows (hands_unread s file left.read handed.read)) (standard_not name other) (in_place_now name temporary here) f.is) (kept, silent))))
   makes_so (inr (other, kept, inl (here, inr (asks, inl (fault, misses, handed, is, silent))))) =
       let c = create_of w g disk input name base inputs temporary o.make in
       with_none m disk name temporary o c new was now file left start end told said result handed
       (subst (CreateSo m disk name temporary o c [] was now None start end told said) (sym is)
-      (ends_early m o c disk name temporary was now start end told said fault honest.first (asking_all name base inputs was now asks)
+      (ends_early m o c disk name temporary was now start end told said fault honest.first (read_asking name base inputs false was now asks)
       (refused_early o c disk start end told said fault (emptying_refused name mid new fault misses) (kept, silent))))
   makes_so (inr (other, kept, inl (here, inr (asks, inr (emptied, empties, makes))))) =
       emptied_so s m feed y w g disk input name base inputs temporary o mid emptied new file items left was now start end told said result (standard_not name other) (in_place_now name temporary here) knows honest kept asks empties makes
@@ -69,11 +70,11 @@ module _ {F I J M N R Y : Type 0} (s : Ghosts F) (m : Ghosts M) (r : Raw R) (fee
       (ends_early m o c disk name temporary was now start end told said NoMemory honest.first (asking_none was now no_calls) (memory_so o c disk start end told said NoMemory refl (kept, silent))))
   makes_so (inr (other, kept, inr (apart, same, handed, inr (inl (finds, back, is, silent))))) =
       let c = create_of w g disk input name base inputs temporary o.make in
-      let f = found (temporary_of name temporary) base inputs was now finds honest.alone in
+      let f = read_looked (temporary_of name temporary) base inputs true was now finds honest.alone in
       with_none m disk name temporary o c new was now left.read left start end told said result handed
       (subst (CreateSo m disk name temporary o c [] was now None start end told said) (sym is)
-      (ends_early m o c disk name temporary was now start end told said Open honest.first (asking_finds (temporary_of name temporary) base inputs was now finds)
-      (open_so o c disk start end told said (read_unopened s w g disk input name base inputs temporary o left.read items (knows (hands_unread s file left.read back)) (standard_not name other) (in_place_not name temporary apart) f.one) (kept, silent))))
+      (ends_early m o c disk name temporary was now start end told said Open honest.first (read_asking (temporary_of name temporary) base inputs true was now finds)
+      (open_so o c disk start end told said (read_unopened s w g disk input name base inputs temporary o left.read items (knows (hands_unread s file left.read back)) (standard_not name other) (in_place_not name temporary apart) f.is) (kept, silent))))
   makes_so (inr (other, kept, inr (apart, same, handed, inr (inr (asked, asks, replaces))))) =
       let c = create_of w g disk input name base inputs temporary o.make in
       let mk : Making _ _ _ = record { word = w; greatest = g; options = o; base = file; inputs = items } in

@@ -1,8 +1,7 @@
 -- That a replacement which fails has its reason in the calls on names, or in the file that was built.
-use Rattle.cdb.proofs.Words.{Answer, BuilderTells, Err, Fault, Feed, Ghosts, IfErr, List, NameCalls, NameEvent, NameFault, Ok, OnErr, Option, ReplaceFault, Result, Sources, [], answer_of, ap, append_assoc, arith, calls_of, inl, inr, inputs_read, refl, subst, sym, ℕ, ⊤, ◌++◌, ◌<◌, ◌∙◌, ◌∷◌, ◌≡◌, ◌≢◌, ◌⊎◌}
-use Rattle.std.proofs.Common.{None, Some}
-use Rattle.cdb_names.specs.Folder.{IsCleared}
-use Rattle.cdb_names.specs.Replacing.{BuilderAnswers, EndsBuilt, EndsIn, FailsRename, FailsToBuild, HasCleared, IsNoName, IsNotGiven, IsOfBuilder, IsStop, IsUndone, LacksBits, StopsMaking, StopsUnbuilt}
+use Rattle.cdb.proofs.Words.{Answer, BuilderTells, Err, Fault, IfErr, List, NameCalls, NameEvent, NameFault, Ok, Option, ReplaceFault, Result, [], answer_of, ap, append_assoc, arith, inl, inr, refl, subst, sym, ℕ, ⊤, ◌++◌, ◌∙◌, ◌∷◌, ◌≡◌, ◌≢◌, ◌⊎◌}
+use Rattle.std.proofs.Common.{Bool, None, Some, true, true≢false}
+use Rattle.cdb_names.specs.Replacing.{BuilderAnswers, EndsIn, FailsRename, FailsToBuild, IsNoName, IsNotGiven, IsOfBuilder, IsStop, IsUndone, LacksBits, StopsMaking, StopsUnbuilt}
 use Rattle.cdb_names.specs.declared.answer.Answer.TheVariants as answer
 use Rattle.cdb_names.specs.declared.answer.Found.TheVariants as found
 use Rattle.cdb_names.specs.declared.answer.Lock.TheVariants as locking
@@ -10,14 +9,15 @@ use Rattle.cdb_names.specs.declared.name_fault.NameFault.TheVariants as name_fau
 use Rattle.cdb_names.specs.declared.name_trace.NameCall.TheVariants as call
 use Rattle.cdb_names.specs.declared.replace.ReplaceFault.TheVariants as replace
 use Rattle.cdb_names.specs.Wanted.{wanted_bits}
-use Rattle.cdb_show.specs.declared.fault.Fault.TheVariants.{Make, Open, Rename}
+use Rattle.cdb_show.specs.declared.fault.Fault.TheVariants.{Open, Rename}
 use Rattle.cdb_store.specs.FileStore.{failures_of}
-use Rattle.cdb_store.specs.declared.file.FileStore.{FileStore}
 use Rattle.cdb_store.specs.declared.raw.RawFile.{Ghosts as Raw}
 use Rattle.cdb_store.specs.declared.trace.Call.TheVariants as file_call
-use Rattle.cdb.specs.Creating.{AsksAll, AsksBase, AsksEach, AsksOne, FindsBase, FindsInput, FindsOne, IsCaused, MayBeInput, MayBeOne, MayBeStandard, fault_of}
+use Rattle.cdb.specs.Created.{is_read}
+use Rattle.cdb.specs.Creating.{FindsOne, IsCaused, LooksFor, files_read}
 use Rattle.cdb.specs.Reasons.{HasFailedFile, HasReason, HasRefusedName, Reasons, RefusesName}
-use Rattle.cdb.proofs.Reasons.{reason_weaker, with_made}
+use Rattle.cdb.proofs.Asks.{SayEach, say_read}
+use Rattle.cdb.proofs.Reasons.{with_made}
 
 -- ---- a call that refused a name
 
@@ -36,48 +36,13 @@ newest old new stop refuses e = record { stop = stop; before = old; since = ([],
 
 -- ---- a file that is read may be the one of the name
 
-may_be : (name file : List ℕ) (was now : NameCalls) (said : Answer) → said ≢ answer.No → now ≡ (call.Same said, name, file, []) ∷ was → HasRefusedName was now
-may_be name file was now answer.Yes other e = newest was now _ tt e
-may_be name file was now answer.Unknown other e = newest was now _ tt e
-may_be name file was now answer.No other e = absurd (other refl)
-
-may_be_standard : (name : List ℕ) (was now : NameCalls) (said : Answer) → said ≢ answer.No → now ≡ (call.Input said, name, [], []) ∷ was → HasRefusedName was now
-may_be_standard name was now answer.Yes other e = newest was now _ tt e
-may_be_standard name was now answer.Unknown other e = newest was now _ tt e
-may_be_standard name was now answer.No other e = absurd (other refl)
-
-asked_one : (name file : List ℕ) (was now : NameCalls) → AsksOne name file was now → (more : NameCalls) × (now ≡ more ++ was)
-asked_one name file was now (inl standard) = ((call.Input answer.No, name, [], []) ∷ [], standard.1)
-asked_one name file was now (inr other) = ((call.Same answer.No, name, file, []) ∷ [], other.1)
-
-finds_input : (name : List ℕ) (files : List (List ℕ)) (was now : NameCalls) → FindsInput name files was now → HasRefusedName was now
-finds_input name [] was now h = absurd h
-finds_input name (file ∷ files) was now (inl (inl standard)) = let one = standard.1 in may_be_standard name was now one.0 one.1 one.2
-finds_input name (file ∷ files) was now (inl (inr other)) = let one = other.1 in may_be name file was now one.0 one.1 one.2
-finds_input name (file ∷ files) was now (inr (mid, asks, more)) = let one = asked_one name file was mid asks in name_then was mid now one.0 one.1 (finds_input name files mid now more)
-
-asked_base : (name : List ℕ) (base : Option (List ℕ)) (was now : NameCalls) → AsksBase name base was now → (more : NameCalls) × (now ≡ more ++ was)
-asked_base name None was now e = ([], e)
-asked_base name (Some file) was now e = ((call.Same answer.No, name, file, []) ∷ [], e)
+refused : (each : List (Answer → NameEvent)) (is : Bool) (was now : NameCalls) → SayEach each is → LooksFor each true was now → HasRefusedName was now
+refused [] is was now none (missed, e) = absurd (true≢false missed)
+refused (asks ∷ more) is was now (one, rest, e, says, say) (inl other) = name_then was (asks answer.No ∷ was) now (asks answer.No ∷ []) refl (refused more rest (asks answer.No ∷ was) now say other)
+refused (asks ∷ more) is was now (one, rest, e, says, say) (inr (said, isnt, met, at)) = newest was now (asks said) (says.refuses said isnt) at
 
 pub finds_one : (name : List ℕ) (base : Option (List ℕ)) (inputs : List (List ℕ)) (was now : NameCalls) → FindsOne name base inputs was now → HasRefusedName was now
-finds_one name (Some file) inputs was now (inl one) = may_be name file was now one.0 one.1 one.2
-finds_one name None inputs was now (inl one) = absurd one
-finds_one name base inputs was now (inr (mid, asks, finds)) =
-    let one = asked_base name base was mid asks in name_then was mid now one.0 one.1 (finds_input name (inputs_read inputs) mid now finds)
-
-asked_each : (name : List ℕ) (files : List (List ℕ)) (was now : NameCalls) → AsksEach name files was now → (more : NameCalls) × (now ≡ more ++ was)
-asked_each name [] was now e = ([], e)
-asked_each name (file ∷ files) was now (mid, asks, each) =
-    let one = asked_one name file was mid asks in
-    let rest = asked_each name files mid now each in
-    (rest.0 ++ one.0, rest.1 ∙ ap (λ c. rest.0 ++ c) one.1 ∙ sym (append_assoc rest.0 one.0 was))
-
-pub asked_all : (name : List ℕ) (base : Option (List ℕ)) (inputs : List (List ℕ)) (was now : NameCalls) → AsksAll name base inputs was now → (more : NameCalls) × (now ≡ more ++ was)
-asked_all name base inputs was now (mid, asks, each) =
-    let one = asked_base name base was mid asks in
-    let rest = asked_each name (inputs_read inputs) mid now each in
-    (rest.0 ++ one.0, rest.1 ∙ ap (λ c. rest.0 ++ c) one.1 ∙ sym (append_assoc rest.0 one.0 was))
+finds_one name base inputs was now h = refused (files_read name base inputs) (is_read name base inputs) was now (say_read name base inputs) h
 
 pub failed_then : {R : Type 0} (r : Raw R) (old mid new more : NameCalls) → mid ≡ more ++ old → HasFailedFile r mid new → HasFailedFile r old new
 failed_then r old mid new more e h =

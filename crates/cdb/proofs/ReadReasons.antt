@@ -1,5 +1,5 @@
 -- That a command has a fault for its reason: one that only reads by what it leaves, and a create by its own contract.
-use Rattle.cdb.proofs.Words.{Asked, Err, Fault, Feed, Ghosts, IfErr, Left, List, None, Ok, OpenCalls, Option, Result, Some, Standard, State, [], ap, arith, inl, inr, refl, subst, sym, ℕ, ⊤, ◌++◌, ◌<◌, ◌∙◌, ◌∷◌, ◌≡◌, ◌⊎◌}
+use Rattle.cdb.proofs.Words.{Asked, Err, Fault, Feed, Ghosts, IfErr, Left, List, None, Ok, OpenCalls, Option, Result, Some, Standard, State, [], ap, arith, inl, inr, refl, subst, sym, ℕ, ◌++◌, ◌<◌, ◌∷◌, ◌≡◌}
 use Rattle.std.proofs.Common.{Bool}
 use Rattle.cdb_command.specs.Asked as asked
 use Rattle.cdb_show.specs.Feed.{SomeFailed, Stop}
@@ -11,21 +11,21 @@ use Rattle.cdb_names.specs.declared.answer.Answer.TheVariants as looks
 use Rattle.cdb_read.specs.declared.fault.ReadFault.TheVariants as read
 use Rattle.cdb_store.specs.contracts.memory.MemStoreStore.TheImpl.{ghosts as in_memory}
 use Rattle.cdb_store.specs.declared.memory.MemStore.{MemStore}
-use Rattle.cdb_show.specs.Runs.Stats.{CheckingFails, TellingFails, TellsStats}
+use Rattle.cdb_show.specs.Runs.Stats.{CheckingFails, TellingFails}
 use Rattle.cdb_show.specs.Runs.Difference.{TellsDifference, DifferenceFails, DifferenceState, DifferenceTask, difference_state, difference_task}
 use Rattle.cdb_show.specs.Runs.Flushed.{FlushedWhole}
-use Rattle.cdb_show.specs.Runs.WalkText.{Form, dump_form, list_form, WritesWalk, WritingFails}
-use Rattle.cdb_show.specs.Runs.Lookups.{LookupState, LookupTask, lookup_state, lookup_task, LooksUp, LookupsFail, LookupsLeave}
+use Rattle.cdb_show.specs.Runs.WalkText.{Form, dump_form, list_form, WritingFails}
+use Rattle.cdb_show.specs.Runs.Lookups.{LookupState, LookupTask, lookup_state, lookup_task, LookupsFail, LookupsLeave}
 use Rattle.cdb_show.specs.Runs.Query.{Queries, Query, QueryFails}
 use Rattle.cdb_show.specs.Views.Window.{window_feed}
-use Rattle.cdb_show.specs.declared.fault.Fault.TheVariants.{Make, Missing, New, NoMemory, NoNewTables, NoOldTables, Long, Old, Open, Output, Read, Rename, Text, Walk}
-use Rattle.cdb_system.specs.Opening.{both_left, input_left, looked_left, none_left, read_left, stream_left}
-use Rattle.cdb_system.specs.Reading.{ChecksStore, IsNotLoaded, OfFile, OfInput, OfStream, PerformsDifference, PerformsLookups, PerformsOn, PerformsQuery, PerformsText, ReadsText, Refuses, Takes, Tells, TellsStore, WritesFile, WritesInput}
+use Rattle.cdb_show.specs.declared.fault.Fault.TheVariants.{Missing, New, NoMemory, NoNewTables, NoOldTables, Long, Old, Output, Read, Text, Walk}
+use Rattle.cdb_system.specs.Opening.{both_left, input_left, looked_left, read_left, stream_left}
+use Rattle.cdb_system.specs.Reading.{ChecksStore, IsNotLoaded, PerformsDifference, PerformsLookups, PerformsOn, PerformsQuery, PerformsText, ReadsText, Refuses, Takes, Tells, TellsStore}
 use Rattle.cdb_system.specs.State.{calls_in, WantedDifference, WantedLookups, WantedQuery, WantedStore, WantedText}
 use Rattle.cdb_system.specs.declared.open_trace.OpenCall.TheVariants.{AtPlaces, Stream}
 use Rattle.cdb.specs.Handing.{Machine}
 use Rattle.cdb.specs.Performs.{HandsOn, Performs}
-use Rattle.cdb.specs.Reasons.{CanHaveNoFile, HasReason, HasRefusedFile, IfCreate, Reasons, calls_made, left_reasons}
+use Rattle.cdb.specs.Reasons.{HasReason, IfCreate, Reasons, calls_made, left_reasons}
 use Rattle.cdb.proofs.Reasons.{file_then, inputs_missed, missed_reason, some_any}
 
 -- ---- what each run leaves

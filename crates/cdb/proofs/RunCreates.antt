@@ -16,7 +16,8 @@ use Rattle.cdb_show.specs.declared.output.Output.{Output as Writer}
 use Rattle.cdb.proofs.Replaced.{IsPlain, said_nothing}
 use Rattle.cdb_system.proofs.Explained.{SaysOnly, says_only}
 use Rattle.cdb.proofs.CreateEnds.{Came, keeps_first}
-use Rattle.cdb.proofs.CreateReads.{asking_none, moments_first}
+use Rattle.cdb.proofs.Asks.{asking_none}
+use Rattle.cdb.proofs.CreateReads.{moments_first}
 use Rattle.cdb.proofs.Creates.{creates_so}
 use Rattle.cdb.proofs.Oracles.{all_taken, handed_all}
 use Rattle.cdb_system.specs.State.{Files, files_of}

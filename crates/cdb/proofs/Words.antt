@@ -2,7 +2,7 @@
 pub use Rattle.cdb.specs.Handing.{HandsInputs, InputsTaken, OpensNoMore, inputs_taken}
 pub use Rattle.cdb.specs.Contents.{making_of}
 pub use Rattle.cdb.specs.Created.{Created, create_of, in_place, in_temporary, is_in_place, is_no_name, is_read, placed, unopened}
-pub use Rattle.cdb.specs.Creating.{AsksAll, AsksEach, Creates, HandsBase, HasDatabase, IsBufferedRun, IsDatabase, IsMakeRun, Making, ReadsMaking, Replaces, SeesName, Syncs, WritesAll, answer_of}
+pub use Rattle.cdb.specs.Creating.{AsksAll, Creates, HandsBase, HasDatabase, IsBufferedRun, IsDatabase, IsMakeRun, Making, ReadsMaking, Replaces, SeesName, Syncs, WritesAll, answer_of}
 pub use Rattle.cdb.specs.Foretold.{IsTaken}
 pub use Rattle.cdb.specs.ForetoldCreate.{HadBytes, HoldsAll, HonestCreate, IsNoAlias, IsNoFailedRemoval, IsNoFailedRename, KeepsAll, LeavesAll, passing, place_of}
 pub use Rattle.cdb.specs.Performs.{PerformsIn, Runs}

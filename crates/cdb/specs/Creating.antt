@@ -1,9 +1,9 @@
 -- What a create makes of what it reads, and under which names. The newest call comes first.
-use Rattle.std.specs.Prelude.{ℕ, ◌≡◌, ◌≢◌, ◌<◌, ◌+◌, ◌⊎◌, IsOk, List, [], ◌∷◌, Option, Some, None, Result, Ok, Err, OnOk, OnErr, IfErr}
+use Rattle.std.specs.Prelude.{ℕ, Bool, true, false, if◌then◌else◌, map, ◌≡◌, ◌≢◌, ◌<◌, ◌+◌, ◌⊎◌, IsOk, List, [], ◌∷◌, ◌++◌, Option, Some, None, Result, Ok, Err, OnOk, OnErr, IfErr}
 use Rattle.std.specs.Io.KnownBytes.{Keeps, Appends}
 use Rattle.cdb_tool.specs.declared.runs.options.RunOptions.{RunOptions}
 use Rattle.cdb_names.specs.Folder.{AreGuarded, NameCalls}
-use Rattle.cdb_names.specs.Replacing.{AreOfReplacing, AtEachMoment, EndsIn, IsRenamed, LeavesNew, FailsToBuild, IsNoName, IsOfBuilder, LeavesOldOrNew, BuilderTells, renames}
+use Rattle.cdb_names.specs.Replacing.{AreOfReplacing, AtEachMoment, EndsIn, NameEvent, IsRenamed, LeavesNew, FailsToBuild, IsNoName, IsOfBuilder, LeavesOldOrNew, BuilderTells, renames}
 use Rattle.cdb_names.specs.declared.answer.Answer.{Answer}
 use Rattle.cdb_names.specs.declared.answer.Answer.TheVariants as looks
 use Rattle.cdb_names.specs.declared.name_trace.NameCall.TheVariants as name_call
@@ -29,6 +29,8 @@ use Rattle.cdb_show.specs.declared.fault.Fault.TheVariants.{Open, NoMemory, Outp
 use Rattle.cdb_read.specs.declared.fault.ReadFault.TheVariants.{Device}
 use Rattle.cdb_store.specs.declared.make_fault.MakeFault.TheVariants.{Writing}
 use Rattle.cdb_system.specs.State.{Files, Standard, State, IsInPlace, temporary_of}
+use Rattle.cdb_system.specs.Answered.{if_some}
+use Rattle.cdb_system.specs.Oracle.{is_standard}
 use Rattle.cdb_system.specs.Inputs.{IsStandard, MissesBase, OpensBase, OpensInputs, StopsOpening, inputs_read}
 use Rattle.cdb_system.specs.Opening.{Empties, MissesEmptying, OpenCalls, base_left, named_as}
 use Rattle.cdb_system.specs.declared.left.Left.{Left}
@@ -132,62 +134,37 @@ pub record MakesOnOutput {F I J : Type 0} (f : Ghosts F) (m : Making F I J) (bac
 
 -- ---- the files that are read are not the one of a name
 
--- that was looked up of an input, or of the file that standard input is
-abbrev pub AsksOne : (name file : List ℕ) → (was now : NameCalls) → Type 0
-AsksOne name file was now =
-    (IsStandard file × (now ≡ (name_call.Input looks.No, name, [], []) ∷ was))
-    ⊎ ((IsStandard file → ⊥) × (now ≡ (name_call.Same looks.No, name, file, []) ∷ was))
+-- whether the base, or a named input, is the file of a name, as the system answers
+abbrev pub file_is : (name file : List ℕ) → Answer → NameEvent
+file_is name file said = (name_call.Same said, name, file, [])
 
--- of each input
-abbrev pub AsksEach : (name : List ℕ) → (files : List (List ℕ)) → (was now : NameCalls) → Type 0
-AsksEach name [] was now = now ≡ was
-AsksEach name (file ∷ files) was now =
-    (mid : NameCalls) × AsksOne name file was mid × AsksEach name files mid now
+-- whether an input is: standard input has no name
+abbrev pub input_is : (name file : List ℕ) → Answer → NameEvent
+input_is name file said =
+    if is_standard file then (name_call.Input said, name, [], []) else file_is name file said
 
-abbrev pub AsksBase : (name : List ℕ) → Option (List ℕ) → (was now : NameCalls) → Type 0
-AsksBase name None was now = now ≡ was
-AsksBase name (Some file) was now = now ≡ (name_call.Same looks.No, name, file, []) ∷ was
+-- whether each file that is read is, the base first
+abbrev pub files_read : (name : List ℕ) → (base : Option (List ℕ)) → (inputs : List (List ℕ))
+    → List (Answer → NameEvent)
+files_read name base inputs =
+    map (file_is name) (if_some base) ++ map (input_is name) (inputs_read inputs)
 
--- of each file that is read, and each answer was no
-abbrev pub AsksAll : (name : List ℕ) → (base : Option (List ℕ)) → (inputs : List (List ℕ))
-    → (was now : NameCalls) → Type 0
-AsksAll name base inputs was now =
-    (mid : NameCalls) × AsksBase name base was mid × AsksEach name (inputs_read inputs) mid now
+-- these were looked up in turn, up to the first that may be it: it is, or the system did not say
+abbrev pub LooksFor : List (Answer → NameEvent) → (found : Bool) → (was now : NameCalls) → Type 0
+LooksFor [] found was now = (found ≡ false) × (now ≡ was)
+LooksFor (asks ∷ more) found was now =
+    LooksFor more found (asks looks.No ∷ was) now
+    ⊎ ((said : Answer) × (said ≢ looks.No) × (found ≡ true) × (now ≡ asks said ∷ was))
 
--- a file may be it, as was looked up: it is, or the system did not say
-abbrev pub MayBeOne : (name file : List ℕ) → (was now : NameCalls) → Type 0
-MayBeOne name file was now =
-    (said : Answer) × (said ≢ looks.No) × (now ≡ (name_call.Same said, name, file, []) ∷ was)
-
--- so may the file that standard input is
-abbrev pub MayBeStandard : (name : List ℕ) → (was now : NameCalls) → Type 0
-MayBeStandard name was now =
-    (said : Answer) × (said ≢ looks.No) × (now ≡ (name_call.Input said, name, [], []) ∷ was)
-
--- so may an input
-abbrev pub MayBeInput : (name file : List ℕ) → (was now : NameCalls) → Type 0
-MayBeInput name file was now =
-    (IsStandard file × MayBeStandard name was now)
-    ⊎ ((IsStandard file → ⊥) × MayBeOne name file was now)
-
--- an input may be it, and those before it are not, as was looked up for each
-abbrev pub FindsInput : (name : List ℕ) → (files : List (List ℕ)) → (was now : NameCalls) → Type 0
-FindsInput name [] was now = ⊥
-FindsInput name (file ∷ files) was now =
-    MayBeInput name file was now
-    ⊎ ((mid : NameCalls) × AsksOne name file was mid × FindsInput name files mid now)
-
-abbrev pub FindsBase : (name : List ℕ) → Option (List ℕ) → (was now : NameCalls) → Type 0
-FindsBase name None was now = ⊥
-FindsBase name (Some file) was now = MayBeOne name file was now
-
--- the base may be it; or an input may, and nothing before that is it
+-- one may be
 abbrev pub FindsOne : (name : List ℕ) → (base : Option (List ℕ)) → (inputs : List (List ℕ))
     → (was now : NameCalls) → Type 0
-FindsOne name base inputs was now =
-    FindsBase name base was now
-    ⊎ ((mid : NameCalls) × AsksBase name base was mid
-    × FindsInput name (inputs_read inputs) mid now)
+FindsOne name base inputs was now = LooksFor (files_read name base inputs) true was now
+
+-- each is another one
+abbrev pub AsksAll : (name : List ℕ) → (base : Option (List ℕ)) → (inputs : List (List ℕ))
+    → (was now : NameCalls) → Type 0
+AsksAll name base inputs was now = LooksFor (files_read name base inputs) false was now
 
 -- ---- in place
 

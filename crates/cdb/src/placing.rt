@@ -1,14 +1,13 @@
 // A database made under its name: in place, or in a temporary file that replaces it.
-ghost use Rattle.std.specs.Prelude.{◌≡◌, ◌⊎◌, ◌∷◌, [], true, false, map, option_map, string_bytes, IfOk, IfErr, OnOk, List, Option, ℕ};
+ghost use Rattle.std.specs.Prelude.{◌≡◌, ◌≢◌, ◌⊎◌, ◌∷◌, [], true, false, map, option_map, string_bytes, IfOk, IfErr, OnOk, List, Option, ℕ};
 ghost use Rattle.cdb_show.specs.Views.Noted.{AreInPlace};
 ghost use Rattle.cdb_show.specs.Views.Output.{OutputSays};
 ghost use Rattle.cdb.specs.Handing.{HandsInputs, OpensNoMore, machine_of};
-ghost use Rattle.cdb.specs.Creating.{AsksAll, AsksBase, AsksEach, AsksOne, FindsBase, FindsInput, FindsOne, MayBeInput, MayBeOne, MayBeStandard, MakesApart, MakesInPlace, SeesName, Syncs, answer_of};
-ghost use Rattle.cdb_system.specs.Inputs.{inputs_read};
+ghost use Rattle.cdb.specs.Creating.{LooksFor, MakesApart, MakesInPlace, SeesName, Syncs, answer_of, file_is, files_read, input_is};
+ghost use Rattle.cdb_system.specs.Answered.{if_some};
 ghost use Rattle.cdb_system.specs.Opening.{Empties, MissesEmptying, OpenCalls, named_as};
 ghost use Rattle.cdb_system.specs.State.{files_of, state_of};
 ghost use Rattle.cdb_names.specs.declared.answer.Answer.TheVariants.{No, Yes};
-ghost use Rattle.cdb_names.specs.declared.name_trace.NameCall.TheVariants.{Input, Same};
 ghost use Rattle.cdb.specs.Contents.{making_of, wanted_of};
 ghost use Rattle.cdb.specs.Reasons.{HasFailedFile, HasReason, HasRefusedName, calls_made, left_reasons, run_reasons};
 ghost use Rattle.cdb_names.specs.Replacing.{IsNoName};
@@ -26,50 +25,43 @@ use cdb_tool::Fault;
 use std::alloc::Global;
 use std::marker::PhantomData;
 
-/// Returns true if `file`, which is read, may be the file of `name`: it is, or the system did not
-/// say. `name` is not followed as a link.
-fn may_be_one<N: Names>(names: &mut N, name: &str, file: &str) -> bool
-    ensures other { result ≡ false
-        → N.calls names.new ≡ (Same No, name.now, file.now, []) ∷ N.calls names.old }
-    ensures found { result ≡ true → MayBeOne name.now file.now
-        (N.calls names.old) (N.calls names.new) }
+/// Returns true if a file may be the one of a name, as the system answered: it is, or it did not
+/// say.
+fn may_be(said: Answer) -> bool
+    ensures other { result ≡ false → said ≡ No }
+    ensures found { result ≡ true → said ≢ No }
 {
-    match names.is_file_of(name, file) {
+    match said {
         Answer::No => false,
         Answer::Yes | Answer::Unknown => true,
     }
 }
 
-/// Returns true if standard input may be the file of `name`: it is, or the system did not say.
-fn may_be_standard<N: Names>(names: &mut N, name: &str) -> bool
-    ensures other { result ≡ false
-        → N.calls names.new ≡ (Input No, name.now, [], []) ∷ N.calls names.old }
-    ensures found { result ≡ true → MayBeStandard name.now (N.calls names.old) (N.calls names.new) }
+/// Returns true if the base may be the file of `name`.
+fn may_be_base<N: Names>(names: &mut N, name: &str, base: &Option<String>) -> bool
+    ensures { LooksFor (map (file_is name.now) (if_some (option_map string_bytes base.now))) result
+        (N.calls names.old) (N.calls names.new) }
 {
-    match names.is_input(name) {
-        Answer::No => false,
-        Answer::Unknown | Answer::Yes => true,
+    match base {
+        Some(base) => may_be(names.is_file_of(name, base.as_str())),
+        None => false,
     }
 }
 
 /// Returns true if an input may be the file of `name`.
 fn may_be_input<N: Names>(names: &mut N, name: &str, input: &str) -> bool
-    ensures other { result ≡ false → AsksOne name.now input.now
-        (N.calls names.old) (N.calls names.new) }
-    ensures found { result ≡ true → MayBeInput name.now input.now
+    ensures { LooksFor (input_is name.now input.now ∷ []) result
         (N.calls names.old) (N.calls names.new) }
 {
     if is_standard(input) {
-        return may_be_standard(names, name);
+        return may_be(names.is_input(name));
     }
-    may_be_one(names, name, input)
+    may_be(names.is_file_of(name, input))
 }
 
 /// Returns true if one of the inputs may be the file of `name`.
-fn may_be_one_of_inputs<N: Names>(names: &mut N, name: &str, inputs: &[String]) -> bool
-    ensures others { result ≡ false → AsksEach name.now (map string_bytes inputs.now)
-        (N.calls names.old) (N.calls names.new) }
-    ensures found { result ≡ true → FindsInput name.now (map string_bytes inputs.now)
+fn may_be_one_of<N: Names>(names: &mut N, name: &str, inputs: &[String]) -> bool
+    ensures { LooksFor (map (input_is name.now) (map string_bytes inputs.now)) result
         (N.calls names.old) (N.calls names.new) }
 {
     for input in inputs {
@@ -80,47 +72,20 @@ fn may_be_one_of_inputs<N: Names>(names: &mut N, name: &str, inputs: &[String]) 
     false
 }
 
-/// Returns true if an input, or without inputs standard input, may be the file of `name`.
-#[tactic(auto, using(crate::proofs::Asks::asks_standard, crate::proofs::Asks::finds_standard, crate::proofs::Asks::asks_named, crate::proofs::Asks::finds_named))]
-fn may_be_one_read<N: Names>(names: &mut N, name: &str, inputs: &[String]) -> bool
-    ensures others { result ≡ false → AsksEach name.now (inputs_read (map string_bytes inputs.now))
-        (N.calls names.old) (N.calls names.new) }
-    ensures found { result ≡ true → FindsInput name.now (inputs_read (map string_bytes inputs.now))
-        (N.calls names.old) (N.calls names.new) }
-{
-    if inputs.is_empty() {
-        return may_be_input(names, name, HYPHEN);
-    }
-    may_be_one_of_inputs(names, name, inputs)
-}
-
-/// Returns true if the base may be the file of `name`.
-fn may_be_base<N: Names>(names: &mut N, name: &str, base: &Option<String>) -> bool
-    ensures other { result ≡ false → AsksBase name.now (option_map string_bytes base.now)
-        (N.calls names.old) (N.calls names.new) }
-    ensures found { result ≡ true → FindsBase name.now (option_map string_bytes base.now)
-        (N.calls names.old) (N.calls names.new) }
-{
-    match base {
-        Some(base) => may_be_one(names, name, base.as_str()),
-        None => false,
-    }
-}
-
-/// Returns true if the base or an input may be the file of this name, which is not followed as a
-/// link.
+/// Returns true if the base or an input, or without inputs standard input, may be the file of this
+/// name, which is not followed as a link.
 fn may_be_read<N: Names>(names: &mut N, name: &str, creation: Creation<'_>) -> bool
-    ensures others { result ≡ false → AsksAll name.now
-        (option_map string_bytes creation.entry.base.now) (map string_bytes creation.entry.inputs.now)
-        (N.calls names.old) (N.calls names.new) }
-    ensures found { result ≡ true → FindsOne name.now
-        (option_map string_bytes creation.entry.base.now) (map string_bytes creation.entry.inputs.now)
-        (N.calls names.old) (N.calls names.new) }
+    ensures { LooksFor (files_read name.now
+        (option_map string_bytes creation.entry.base.now) (map string_bytes creation.entry.inputs.now))
+        result (N.calls names.old) (N.calls names.new) }
 {
     if may_be_base(names, name, creation.base) {
         return true;
     }
-    may_be_one_read(names, name, creation.inputs)
+    if creation.inputs.is_empty() {
+        return may_be_input(names, name, HYPHEN);
+    }
+    may_be_one_of(names, name, creation.inputs)
 }
 
 /// Empties the file of a name, or makes one, once its lock is held. `Open`: another process holds

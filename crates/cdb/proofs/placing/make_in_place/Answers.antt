@@ -1,8 +1,9 @@
-use Rattle.cdb.proofs.Words.{Keeps-refl, Some, [], inl, inr, making_of, refl, rules, same_places, ◌∷◌}
+use Rattle.cdb.proofs.Words.{Keeps-refl, Some, [], inl, inr, making_of, refl, rules, same_places, subst, ◌∷◌}
 use Rattle.cdb.proofs.Databases.{database_synced, named_says, synced_says}
 use Rattle.cdb.proofs.HandedBack.{hands_left, making_opens, missing_opens}
 use Rattle.std.proofs.Common.{map, option_map, string_bytes}
 use Rattle.cdb.specs.Contents.{sources_left}
+use Rattle.cdb.specs.Creating.{LooksFor, files_read}
 use Rattle.cdb.specs.Handing.{machine_of}
 use Rattle.cdb.specs.Reasons.{AnyStoreFailed, calls_made, left_reasons, run_reasons}
 use Rattle.cdb.proofs.NameReasons.{finds_one}
@@ -11,11 +12,11 @@ use Rattle.cdb.proofs.placing.make_in_place.Goals as goal
 
 pub returns-then-may_be_read-clause-makes : goal.returns-then-may_be_read-clause-makes
 returns-then-may_be_read-clause-makes g c =
-    rw c.into_left.ensures (rw c.into_sources.ensures (c.args.contents.sources.inputs, record { readers = refl; shared = refl; stream = refl; placed = same_places c.args.contents.sources.inputs.readers.items }, λ output. inl (search rules, refl, record { read = refl; other = refl; made = refl }, refl, Keeps-refl _)))
+    rw c.into_left.ensures (rw c.into_sources.ensures (c.args.contents.sources.inputs, record { readers = refl; shared = refl; stream = refl; placed = same_places c.args.contents.sources.inputs.readers.items }, λ output. inl (subst (λ found. LooksFor (files_read c.args.creation.name.now (option_map string_bytes c.args.creation.base.now) (map string_bytes c.args.creation.inputs.now)) found (g.Y.Names.Names.calls c.args.names.now) (g.Y.Names.Names.calls c.may_be_read.new.names)) (search rules) c.may_be_read.ensures, refl, record { read = refl; other = refl; made = refl }, refl, Keeps-refl _)))
 
 pub returns-in-Err-clause-makes : goal.returns-in-Err-clause-makes
 returns-in-Err-clause-makes g c =
-    rw c.into_left-in-Err.ensures (rw c.into_sources-in-Err.ensures (c.args.contents.sources.inputs, record { readers = refl; shared = refl; stream = refl; placed = same_places c.args.contents.sources.inputs.readers.items }, λ output. inr (c.may_be_read.ensures.others (search rules), inl (c.in-Err.fault, c.in-Err.ensures.fails, record { read = refl; other = refl; made = refl }, refl, Keeps-refl _))))
+    rw c.into_left-in-Err.ensures (rw c.into_sources-in-Err.ensures (c.args.contents.sources.inputs, record { readers = refl; shared = refl; stream = refl; placed = same_places c.args.contents.sources.inputs.readers.items }, λ output. inr (subst (λ found. LooksFor (files_read c.args.creation.name.now (option_map string_bytes c.args.creation.base.now) (map string_bytes c.args.creation.inputs.now)) found (g.Y.Names.Names.calls c.args.names.now) (g.Y.Names.Names.calls c.may_be_read.new.names)) (search rules) c.may_be_read.ensures, inl (c.in-Err.fault, c.in-Err.ensures.fails, record { read = refl; other = refl; made = refl }, refl, Keeps-refl _))))
 
 pub returns-in-Err-clause-opens : goal.returns-in-Err-clause-opens
 returns-in-Err-clause-opens g c = missing_opens _ _ _ c.in-Err.fault c.in-Err.ensures.fails
@@ -30,7 +31,7 @@ returns-clause-makes g c =
       hands_left sources c.into_left-2.result _ c.args.contents.sources.inputs c.into_left-2.ensures c.build-store.ensures.tells.1,
       λ output.
           rw c.into_left-2.ensures (inr (
-            c.may_be_read.ensures.others (search rules),
+            subst (λ found. LooksFor (files_read c.args.creation.name.now (option_map string_bytes c.args.creation.base.now) (map string_bytes c.args.creation.inputs.now)) found (g.Y.Names.Names.calls c.args.names.now) (g.Y.Names.Names.calls c.may_be_read.new.names)) (search rules) c.may_be_read.ensures,
             inr (
               g.Y.System.calls c.emptied.new.system,
               c.in-Ok.ensures.calls,
@@ -62,7 +63,7 @@ returns-clause-output g c =
 
 pub returns-then-may_be_read-clause-reason : goal.returns-then-may_be_read-clause-reason
 returns-then-may_be_read-clause-reason g c =
-    inr (inl (finds_one c.args.creation.name.now (option_map string_bytes c.args.creation.base.now) (map string_bytes c.args.creation.inputs.now) (g.Y.Names.Names.calls c.args.names.now) (g.Y.Names.Names.calls c.may_be_read.new.names) (search rules)))
+    inr (inl (finds_one c.args.creation.name.now (option_map string_bytes c.args.creation.base.now) (map string_bytes c.args.creation.inputs.now) (g.Y.Names.Names.calls c.args.names.now) (g.Y.Names.Names.calls c.may_be_read.new.names) (subst (λ found. LooksFor (files_read c.args.creation.name.now (option_map string_bytes c.args.creation.base.now) (map string_bytes c.args.creation.inputs.now)) found (g.Y.Names.Names.calls c.args.names.now) (g.Y.Names.Names.calls c.may_be_read.new.names)) (search rules) c.may_be_read.ensures)))
 
 pub returns-in-Err-clause-reason : goal.returns-in-Err-clause-reason
 returns-in-Err-clause-reason g c =
