@@ -1,5 +1,5 @@
 -- What a fault of a command comes of: a reader or a store that failed, or a call that refused a name.
-use Rattle.std.specs.Prelude.{ℕ, ◌≡◌, ◌<◌, ◌⊎◌, List, [], ◌∷◌, ◌++◌, Option, Some, None, ⊤}
+use Rattle.std.specs.Prelude.{ℕ, ◌≡◌, ◌<◌, ◌⊎◌, List, [], ◌∷◌, ◌++◌, ⊤}
 use Rattle.cdb_command.specs.Asked.{Asked}
 use Rattle.cdb_command.specs.Asked as asked
 use Rattle.cdb_show.specs.Feed.{SomeFailed}

@@ -6,12 +6,12 @@ use Rattle.std.proofs.lemmas.List.Elements.{recursion_from_All}
 use Rattle.std.specs.List.{concat, All}
 use Rattle.std.specs.Io.KnownBytes.{Appends}
 use Rattle.cdb_store.specs.declared.store.Store.{Ghosts}
-use Rattle.cdb_form.specs.Format.{head_size, file_bytes, file_size, KeyValue, IsRecord}
+use Rattle.cdb_form.specs.Format.{file_bytes, file_size, KeyValue, IsRecord}
 use Rattle.cdb_form.specs.Views.KnownBytes.{AppendsPrefix}
 use Rattle.cdb_form.specs.declared.damage.Damage.{Damage}
 use Rattle.cdb_form.specs.declared.width.Width.{Ghosts as Widths}
 use Rattle.cdb_form.proofs.Bytes.WritingLemmas.{appends_then, prefix_then}
-use Rattle.cdb_make.specs.Views.Maker.{Holds, IsFile, made_size}
+use Rattle.cdb_make.specs.Views.Maker.{Holds, made_size}
 use Rattle.cdb_make.specs.declared.maker.Maker.{Maker}
 use Rattle.cdb_make.proofs.Appends.{held_are, held_size, made_within}
 use Rattle.cdb_read.proofs.WholeFiles.LookupLaws.{finds_values}

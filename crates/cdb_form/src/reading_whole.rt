@@ -1,5 +1,5 @@
 // All that a reader has, into a vector, up to a limit.
-ghost use Rattle.std.specs.Prelude.{◌≡◌, ◌+◌, ◌-◌, ◌^◌, ◌<◌, ◌≤◌, Some, codes, length, IfOk, IfErr, OnErr};
+ghost use Rattle.std.specs.Prelude.{◌≡◌, ◌+◌, ◌-◌, ◌<◌, ◌≤◌, Some, length, IfOk, IfErr, OnErr};
 ghost use Rattle.cdb_form.specs.Views.Feed.{Consumes};
 ghost use Rattle.cdb_form.specs.Views.Taking.{Gives, LosesAtMost};
 ghost use Rattle.cdb_form.specs.Format.{AreBytes};

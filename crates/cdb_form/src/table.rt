@@ -1,5 +1,5 @@
 // One table, filled in its own bytes.
-ghost use Rattle.std.specs.Prelude.{◌≡◌, ℕ, ◌+◌, ◌%◌, ◌<◌, ◌≤◌, length, drop, get_or, min};
+ghost use Rattle.std.specs.Prelude.{◌≡◌, ◌+◌, ◌%◌, ◌<◌, ◌≤◌, length, drop, get_or, min};
 ghost use Rattle.std.specs.List.{prefix_len};
 ghost use Rattle.cdb_form.specs.Format.{is_used, slots_from, slots_with, empty_slot};
 ghost use Rattle.cdb_form.specs.Views.Pairs.{slot_pair, PairFits, IsRun, AreRuns, slots_in};

@@ -1,5 +1,5 @@
 // The entries of a roll, found by their hashes.
-ghost use Rattle.std.specs.Prelude.{◌≡◌, ℕ, List, [], ◌+◌, ◌-◌, ◌/◌, ◌<◌, ◌≤◌, ◌^◌, ◌⊎◌, ◌∷◌, length, min, map, Bool, slice_index, slice_set, get_or, vec_capacity, true, false, OnOk, OnErr};
+ghost use Rattle.std.specs.Prelude.{◌≡◌, ℕ, List, [], ◌+◌, ◌-◌, ◌/◌, ◌<◌, ◌≤◌, ◌^◌, length, min, map, Bool, slice_index, slice_set, get_or, vec_capacity, true, false, OnOk};
 ghost use Rattle.std.specs.Bool.{Decides};
 ghost use Rattle.cdb_make.specs.Spans.{gone_of, all_marks, taken, HaveHash, IsTakenFrom};
 ghost use Rattle.cdb_make.specs.Chains.{AreChained, FindsLast, IsLast, IsIn, Has, Reaches, bucket_of};

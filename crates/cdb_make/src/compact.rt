@@ -1,5 +1,5 @@
 // The gaps of the records that go, closed in one pass.
-ghost use Rattle.std.specs.Prelude.{◌≡◌, ℕ, ◌+◌, ◌<◌, ◌≤◌, ◌^◌, List, true, false, length, map, get_or, sum, take, OnOk, IfOk, IsErrOf};
+ghost use Rattle.std.specs.Prelude.{◌≡◌, ℕ, ◌+◌, ◌<◌, ◌≤◌, ◌^◌, List, length, get_or, sum, take, OnOk, IsErrOf};
 ghost use Rattle.cdb_store.specs.declared.store.StoreFault.TheVariants.{NoMemory};
 ghost use Rattle.cdb_store.specs.Images.{KeepsPart, HasCause};
 ghost use Rattle.cdb_make.specs.Spans.{gone_of, IsFirstMarked, AreSpans, AreOf, Turns, left, behind};

@@ -1,5 +1,5 @@
 // A maker is made, finishes its file, and gives its store back.
-ghost use Rattle.std.specs.Prelude.{◌≡◌, ℕ, ◌+◌, ◌≤◌, ◌<◌, true, false, List, IfOk, IfErr, OnOk};
+ghost use Rattle.std.specs.Prelude.{◌≡◌, ◌+◌, ◌≤◌, ◌<◌, true, false, List, IfOk, IfErr, OnOk};
 ghost use Rattle.cdb_form.specs.Format.{head_size, KeyValue};
 ghost use Rattle.cdb_make.specs.Unfinished.{IsUnfinished};
 ghost use Rattle.cdb_make.specs.Views.Maker.{MakingFault};

@@ -1,5 +1,5 @@
 // The records of a key, found in a roll.
-ghost use Rattle.std.specs.Prelude.{◌≡◌, ℕ, ◌+◌, ◌-◌, ◌<◌, ◌≤◌, ◌^◌, length, IfOk, IfSome, OnOk, OnErr, Err};
+ghost use Rattle.std.specs.Prelude.{◌≡◌, ◌+◌, ◌-◌, ◌<◌, ◌≤◌, length, IfOk, IfSome, OnOk, Err};
 ghost use Rattle.cdb_store.specs.Reads.{OnlyReads};
 ghost use Rattle.cdb_make.specs.declared.key_at.LookFault.TheVariants.{Failed, Foreign};
 ghost use Rattle.cdb_make.specs.Chains.{Has};

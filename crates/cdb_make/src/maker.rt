@@ -1,5 +1,5 @@
 // A maker of a database: a store, and the roll of its records.
-ghost use Rattle.std.specs.Prelude.{◌≡◌, ℕ, ◌+◌, ◌*◌, ◌<◌, ◌≤◌, ◌⊎◌, true, false, length, OnOk, OnErr, IfOk, IfErr};
+ghost use Rattle.std.specs.Prelude.{◌≡◌, ◌+◌, ◌*◌, ◌<◌, ◌≤◌, ◌⊎◌, true, false, length, OnOk, OnErr, IfErr};
 ghost use Rattle.cdb_form.specs.Format.{whole_size, record_size};
 ghost use Rattle.cdb_make.specs.Spans.{gone_of, found_of, AreNone, HaveHash};
 ghost use Rattle.cdb_make.specs.Views.Roll.{searched, marks_in, HasRoom, SameRecords};

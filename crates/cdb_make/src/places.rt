@@ -1,5 +1,5 @@
 // The places of some records, in as few bytes as the width of a word allows.
-ghost use Rattle.std.specs.Prelude.{◌≡◌, ℕ, ◌+◌, ◌<◌, ◌≤◌, [], ◌∷◌, ◌++◌, length, take, get_or};
+ghost use Rattle.std.specs.Prelude.{◌≡◌, ◌+◌, ◌<◌, ◌≤◌, [], ◌∷◌, ◌++◌, length, take, get_or};
 ghost use Rattle.std.specs.Prelude.{slice_set, true, false, vec_capacity, IfOk, OnOk, OnErr};
 
 use crate::growth::reserve_one;

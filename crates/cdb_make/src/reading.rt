@@ -1,5 +1,5 @@
 // The answers of a maker about its records, and its looks at a key.
-ghost use Rattle.std.specs.Prelude.{◌≡◌, ℕ, ◌+◌, ◌≤◌, true, false, List, length, IfOk, IfErr, OnOk};
+ghost use Rattle.std.specs.Prelude.{◌≡◌, ◌+◌, ◌≤◌, true, false, List, length, IfOk, IfErr, OnOk};
 ghost use Rattle.cdb_form.specs.Format.{file_size, KeyValue};
 ghost use Rattle.cdb_make.specs.Chains.{second_hash, NoNewImage};
 ghost use Rattle.cdb_make.specs.Views.Maker.{look_fault, is_foreign, WhereHonest, IsThere};

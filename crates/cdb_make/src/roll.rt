@@ -1,5 +1,5 @@
 // The notes about the records on a store.
-ghost use Rattle.std.specs.Prelude.{◌≡◌, ℕ, ◌+◌, ◌-◌, ◌<◌, ◌≤◌, ◌^◌, ◌⊎◌, List, Bool, [], ◌∷◌, ◌++◌, true, false, get_or, slice_set, take, length, min, cond, vec_capacity, OnOk, OnErr};
+ghost use Rattle.std.specs.Prelude.{◌≡◌, ℕ, ◌+◌, ◌-◌, ◌<◌, ◌≤◌, ◌^◌, ◌⊎◌, List, [], ◌∷◌, ◌++◌, true, false, get_or, slice_set, take, length, min, cond, vec_capacity, OnOk, OnErr};
 ghost use Rattle.cdb_form.specs.Format.{head_size, key_hash};
 ghost use Rattle.cdb_make.specs.Chains.{second_hash, searched_by, AreChained, FindsLast, Has};
 ghost use Rattle.cdb_make.specs.Spans.{gone_of, found_of, all_marks, HaveHash, IsFirstMarked, IsPutBackFrom, AreNone, AreRising, AreOf, IsPicked, left, or_each};

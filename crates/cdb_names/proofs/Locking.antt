@@ -2,7 +2,7 @@
 use Rattle.std.proofs.Common.{◌≡◌, ◌≢◌, ℕ, inl, inr, List, [], ◌∷◌, Option, refl, sym, subst, ap, ◌∙◌}
 use Rattle.cdb_names.specs.declared.answer.Answer.TheVariants.{Yes, No}
 use Rattle.cdb_names.specs.declared.answer.Lock.{Lock}
-use Rattle.cdb_names.specs.declared.answer.Lock.TheVariants.{Taken, Unsupported, Held}
+use Rattle.cdb_names.specs.declared.answer.Lock.TheVariants.{Held}
 use Rattle.cdb_names.specs.declared.name_trace.NameCall.TheVariants.{Same, Opened, Made, Locked, Own, Seen, NotRenamed}
 use Rattle.cdb_names.specs.declared.name_fault.NameFault.{NameFault}
 use Rattle.cdb_names.specs.declared.shown.Shown.{Shown}

@@ -4,7 +4,7 @@ use Rattle.std.specs.List.{AllByRecursion}
 use Rattle.std.proofs.lemmas.Bool.{false≢true}
 use Rattle.cdb_store.specs.Calls.{Calls, IsSynced, FileImage}
 use Rattle.cdb_names.specs.declared.name_trace.NameCall.{NameCall}
-use Rattle.cdb_names.specs.declared.name_trace.NameCall.TheVariants.{Special, Same, Looked, Opened, NotOpened, Made, NotMade, Locked, Own, Input, Bits, Seen, Set}
+use Rattle.cdb_names.specs.declared.name_trace.NameCall.TheVariants.{Made, Bits, Seen, Set}
 use Rattle.cdb_names.specs.declared.name_trace.NameCall.TheVariants.{Removed, NotRemoved, Renamed, NotRenamed, Synced, NotSynced}
 use Rattle.cdb_names.specs.declared.shown.Shown.{Shown}
 use Rattle.cdb_names.specs.Folder.{NameCalls, IsRemoval, IsCleared, MayHave, Has, LeavesFile, AreNamesApart, MayRemove, IsGuarded, EachIsGuarded, AreGuarded}

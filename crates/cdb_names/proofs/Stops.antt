@@ -10,8 +10,7 @@ use Rattle.cdb_names.specs.declared.answer.Lock.TheVariants.{Held}
 use Rattle.cdb_names.specs.declared.answer.Lock.TheVariants as locking
 use Rattle.cdb_names.specs.declared.name_fault.NameFault.{NameFault}
 use Rattle.cdb_names.specs.declared.name_fault.NameFault.TheVariants.{Failed, NoMemory}
-use Rattle.cdb_names.specs.declared.name_trace.NameCall.TheVariants.{Special, Same, Looked, Opened, NotOpened, Made, NotMade, Locked, Own, Input, Bits, Seen, Set}
-use Rattle.cdb_names.specs.declared.name_trace.NameCall.TheVariants.{Removed, NotRemoved, Renamed, NotRenamed, Synced, NotSynced}
+use Rattle.cdb_names.specs.declared.name_trace.NameCall.TheVariants.{Special, Same, Looked, Opened, NotOpened, Made, NotMade, Locked, Bits, Seen}
 use Rattle.cdb_names.specs.declared.replace.ReplaceFault.{ReplaceFault}
 use Rattle.cdb_names.specs.declared.replace.ReplaceFault.TheVariants as replacing
 use Rattle.cdb_store.specs.Calls.{Calls}

@@ -5,8 +5,8 @@ ghost use Rattle.cdb_names.specs.declared.answer.Lock.TheVariants.{Held};
 ghost use Rattle.cdb_names.specs.declared.name_trace.NameCall.TheVariants.{Locked, NotMade, NotOpened, Renamed, NotRenamed, Same};
 ghost use Rattle.std.specs.Option.{ForSome};
 ghost use Rattle.cdb_names.specs.declared.refusal.Newest.TheVariants.{Nothing};
-ghost use Rattle.cdb_names.specs.Folder.{IsRemoval, IsCleared};
-ghost use Rattle.cdb_names.specs.Refusals.{IsUnkept, IsUnrefused, is_of_system, may_be_for, refusal_in, refused_for, refused_name};
+ghost use Rattle.cdb_names.specs.Folder.{IsRemoval};
+ghost use Rattle.cdb_names.specs.Refusals.{IsUnkept, IsUnrefused, may_be_for, refusal_in, refused_for, refused_name};
 
 use crate::answer::{Answer, Found, Lock};
 use crate::locks::locked;

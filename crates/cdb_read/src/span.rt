@@ -1,5 +1,5 @@
 // The places of keys and values in a file.
-ghost use Rattle.std.specs.Prelude.{◌≡◌, ◌+◌, ◌<◌, ◌≤◌, MatchOption};
+ghost use Rattle.std.specs.Prelude.{◌+◌, ◌<◌, ◌≤◌, MatchOption};
 ghost use Rattle.std.specs.Bool.{Decides};
 ghost use Rattle.cdb_form.specs.Format.{pair_size};
 ghost use Rattle.cdb_read.specs.Views.Spans.{HasSpans};

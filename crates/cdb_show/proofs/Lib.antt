@@ -24,7 +24,6 @@ pub mod OutputLemmas
 pub mod DifferenceRuns
 pub mod GivenInputs
 pub mod PlacedReaders
-pub mod KnownInputs
 pub mod LookedUp
 pub mod ShownParts
 pub mod LineCounts

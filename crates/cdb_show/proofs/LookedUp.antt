@@ -6,10 +6,9 @@ use Rattle.std.proofs.lemmas.Bool.{cond-true, cond-false}
 use Rattle.std.proofs.lemmas.List.Sums.{fold-append}
 use Rattle.std.proofs.KnownBytes.{Appends-kept, Keeps-trans}
 use Rattle.cdb_show.specs.Feed as fed
-use Rattle.cdb_show.specs.Feed.{AgreesWith, AreUnread, FirstAgree, IsGiven, HasFault, CutShort, HasBytes, HaveBytes, IsUnread, NoMore, Stop, reached}
+use Rattle.cdb_show.specs.Feed.{AgreesWith, AreUnread, FirstAgree, IsGiven, HasFault, CutShort, IsUnread, NoMore, Stop, reached}
 use Rattle.cdb_show.proofs.InputsGiven.{all_given}
 use Rattle.cdb_form.specs.Format.{AreBytes}
-use Rattle.cdb_form.specs.Views.Feed.{reader_feed}
 use Rattle.cdb_form.specs.declared.text.fault.TextFault.TheVariants as text
 use Rattle.cdb_read.specs.declared.fault.ReadFault.TheVariants as read_fault
 use Rattle.cdb_show.specs.Runs.Flushed.{FlushedWhole, IsWhole}
@@ -20,7 +19,6 @@ use Rattle.cdb_show.specs.Views.Noted.{held_of, reader_of}
 use Rattle.cdb_show.specs.declared.fault.Fault.TheVariants.{Text, Missing, Read, Output, NoMemory}
 use Rattle.cdb_show.specs.declared.inputs.SharedWindow.TheVariants.{InHand, Unread}
 use Rattle.cdb_show.proofs.GivenInputs.{same_given, said}
-use Rattle.cdb_show.proofs.KnownInputs.{known_inputs}
 use Rattle.cdb_show.proofs.LookupRuns.{each_more}
 use Rattle.cdb_show.proofs.Writers.{prefix_kept, whole_prefix}
 
@@ -298,11 +296,3 @@ lookups_asked task own shared inputs left each whole old new bytes start end res
     let agrees_so = window_agrees shared l.are.window whole (subst (λ r. AgreesWith AreBytes (shared r) whole) l.are.handed agrees) in
     let given = all_given own (shared_feed shared) p l.read l.stop inputs.readers.items left.readers.items (Unread inputs.shared) l.are.window each whole unread first l.are.are agree long agrees_so in
     given_asked task own shared inputs left each whole old new bytes start end result h given is works
-
--- if the standard library says which bytes the readers had: for these
-pub known_lookups_asked : {J I S : Type 0} (task : LookupTask S) (own : J → Option (List ℕ)) (shared : I → Option (List ℕ)) (inputs left : Inputs J I) (each : List (Option (List ℕ))) (whole : List ℕ) (old new : S) (bytes : List ℕ) (start end : Option (List ℕ)) (result : Result Unit Fault)
-    → LooksUp task (λ reader. reader_feed (own reader)) (λ reader. reader_feed (shared reader)) (lookup_state inputs old start) (lookup_state left new end) result → HaveBytes own AreBytes each inputs.readers.items → HasBytes AreBytes (shared inputs.shared) whole
-    → task.store.image new bytes → task.store.failures new ≡ 0 → LooksOrShort task.word task.store (records_asked task.word task.greatest task.options each whole bytes) old new start end result
-known_lookups_asked task own shared inputs left each whole old new bytes start end result h have has is works =
-    let l = h.leaves in
-    given_asked task _ _ inputs left each whole old new bytes start end result h (known_inputs own shared (stopped_parsing (keys_form task.options.style) task.greatest (fault_in h.answer)) l.read l.stop inputs left l.are.window each whole have has l.are.are) is works

@@ -1,5 +1,5 @@
 // The lines of a duplicate.
-ghost use Rattle.std.specs.Prelude.{OnErr, ◌≡◌, ◌++◌, [], ◌∷◌, codes, take};
+ghost use Rattle.std.specs.Prelude.{OnErr, ◌≡◌, [], ◌∷◌, codes, take};
 ghost use Rattle.cdb_command.specs.Refused.{parts_line};
 ghost use Rattle.cdb_form.specs.Views.KnownBytes.{Writes};
 ghost use Rattle.cdb_show.specs.Message.{after_key, duplicate_lines, key_line};

@@ -1,5 +1,5 @@
 // The messages of faults.
-ghost use Rattle.std.specs.Prelude.{◌≡◌, [], ◌++◌, OnErr, Some, codes};
+ghost use Rattle.std.specs.Prelude.{◌≡◌, OnErr, Some};
 ghost use Rattle.cdb_form.specs.Views.KnownBytes.{Writes};
 ghost use Rattle.cdb_show.specs.Message.{fault_message, fault_side, numbered, said_place, fault_place};
 ghost use Rattle.cdb_show.specs.Message.{read_place};

@@ -1,6 +1,6 @@
 // Output through a buffer, which passes many bytes in one call.
-ghost use Rattle.std.specs.Prelude.{◌≡◌, ℕ, ◌+◌, ◌<◌, ◌≤◌, [], ◌-◌, Some, length, take, min, true, false};
-ghost use Rattle.std.specs.Prelude.{IfOk, OnOk, OnErr, flat_map, vec_capacity, vec_len};
+ghost use Rattle.std.specs.Prelude.{◌≡◌, ◌+◌, ◌<◌, ◌≤◌, [], ◌-◌, Some, length, take, min, true, false};
+ghost use Rattle.std.specs.Prelude.{IfOk, OnOk, OnErr, vec_capacity, vec_len};
 ghost use Rattle.std.specs.Io.KnownBytes.{Keeps, Appends};
 ghost use Rattle.cdb_show.specs.Views.Noted.{HasFailed};
 

@@ -1,6 +1,6 @@
 // The messages about words of a command line that have no meaning.
-ghost use Rattle.std.specs.Prelude.{◌≡◌, ◌++◌, OnErr, [], ◌∷◌, codes, encode_utf8, flat_map, map};
-ghost use Rattle.cdb_command.specs.Refused.{parts_line, refused_in, refused_line, said_lacking, shown};
+ghost use Rattle.std.specs.Prelude.{◌≡◌, OnErr, [], ◌∷◌, codes, encode_utf8};
+ghost use Rattle.cdb_command.specs.Refused.{parts_line, refused_in, refused_line, said_lacking};
 ghost use Rattle.cdb_form.specs.Views.KnownBytes.{Writes};
 
 use crate::shown::write_line;

@@ -1,11 +1,10 @@
 // Whole reads and writes, made of raw calls that may do a part, be interrupted or fail.
-ghost use Rattle.std.specs.Prelude.{◌≡◌, ◌+◌, ◌<◌, ◌≤◌, ◌^◌, ◌⊎◌, false, [], ◌∷◌, length, take};
+ghost use Rattle.std.specs.Prelude.{◌≡◌, ◌+◌, ◌<◌, ◌≤◌, ◌^◌, false, [], ◌∷◌, length, take};
 ghost use Rattle.std.specs.Prelude.{IfOk, IfSome, IfNone, OnOk, OnErr, IsErrOf};
 ghost use Rattle.cdb_store.specs.declared.trace.Call.TheVariants.{Read, Wrote, NotWritten, Length};
-ghost use Rattle.cdb_store.specs.declared.trace.Call.TheVariants.{Cut, Failed, Refused, Lost};
+ghost use Rattle.cdb_store.specs.declared.trace.Call.TheVariants.{Failed, Refused};
 ghost use Rattle.cdb_store.specs.declared.store.StoreFault.TheVariants.{NoMemory};
-ghost use Rattle.cdb_store.specs.Images.{SameImages};
-ghost use Rattle.cdb_store.specs.Calls.{Agrees, lost, failure_count, written_count, Asked};
+ghost use Rattle.cdb_store.specs.Calls.{lost, failure_count, written_count, Asked};
 ghost use Rattle.cdb_store.specs.Calls.{AskedInVain, Came, AfterPut, AfterTornPut, Untouched};
 ghost use Rattle.cdb_store.specs.Calls.{IsLost, AreAtLeast, failed_syncs};
 

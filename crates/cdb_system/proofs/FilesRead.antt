@@ -17,7 +17,7 @@ use Rattle.cdb_show.specs.Runs.Stats.{CheckingFails, StatsMeetDamage, TellingFai
 use Rattle.cdb_show.specs.Runs.WalkText.{WritesFirst, WritesTextPrefix, WritesToDamage, WritesWalk, WritingFails, closing, walk_text}
 use Rattle.cdb_show.specs.Runs.Query.{QueryAnswers, Query, Queries, QueryFails, query_text, query_answer}
 use Rattle.cdb_show.specs.Status.{plain_status, check_status}
-use Rattle.cdb_show.specs.declared.fault.Fault.TheVariants.{Text, Make, Duplicate, Missing, Read, Walk, Output, Long, Open, Rename, NoMemory, Old, New, NoOldTables, NoNewTables, NoBaseTables}
+use Rattle.cdb_show.specs.declared.fault.Fault.TheVariants.{Missing, Read, Walk, Output, Long, Open, NoMemory}
 use Rattle.cdb_system.specs.Answered.{Database, Nothing, Reading, stores_in, streams_in}
 use Rattle.cdb_system.specs.Oracle.{Disk, Outcome, check_outcome, ended, met, of_file, query_outcome, short_or, stats_outcome, text_outcome, unless_damaged}
 use Rattle.cdb_system.proofs.Coming.{Comes, EachAgrees, EachAnswered, IsSized, comes_so, gives_none, gives_up, long_is, nothing_written, of_shown, output_of, refused_so, short_is}

@@ -4,7 +4,7 @@ use Rattle.std.specs.Prelude.{⊤}
 use Rattle.cdb_system.proofs.Words.{AllByRecursion, Feed, Ghosts, InputReader, OpenCall, OpenCalls}
 use Rattle.std.proofs.lemmas.Bool.{cond-true, cond-false, false_from_ne_true}
 use Rattle.std.proofs.lemmas.Slice.Eq.{bytes_eq-Decides}
-use Rattle.cdb_show.specs.Feed.{AgreesWith, AreRead, FirstAgree, Stop, NoMore, HasFault, CutShort, NotBegun, StopsSo, TakesOne, reached, Parsing}
+use Rattle.cdb_show.specs.Feed.{AgreesWith, AreRead, FirstAgree, Stop, HasFault, CutShort, StopsSo, TakesOne, reached, Parsing}
 use Rattle.cdb_show.specs.declared.input_reader.InputReader.TheVariants.{Own, Shared}
 use Rattle.cdb_form.specs.Format.{AreBytes}
 use Rattle.cdb_show.specs.Runs.Incoming.{EachOfBytes}

@@ -2,7 +2,7 @@
 use Rattle.cdb_system.proofs.Words.{Asked, Bool, Err, Fault, Result, false, subst, true, ◌≡◌}
 use Rattle.cdb_command.specs.Asked as asked
 use Rattle.cdb_show.specs.Views.Output.{OutputSays}
-use Rattle.cdb_show.specs.declared.fault.Fault.TheVariants.{Text, Make, Duplicate, Missing, Read, Walk, Output, Long, Open, Rename, NoMemory, Old, New, NoOldTables, NoNewTables, NoBaseTables}
+use Rattle.cdb_show.specs.declared.fault.Fault.TheVariants.{Output}
 use Rattle.cdb_system.specs.Answered.{IsRefusal, Reading}
 
 -- true if a command writes on standard output

@@ -6,7 +6,7 @@ use Rattle.cdb_form.specs.Views.Feed.{Consumes, Feed, FromTo, Keeps}
 use Rattle.cdb_form.specs.Views.Taking.{GivesAll, GivesMore}
 use Rattle.cdb_form.specs.declared.walk.fault.WalkFault.TheVariants as walk
 use Rattle.cdb_system.proofs.Words.{Fault, Form, MemStore, WritesFirst, WritesToDamage, WritesWalk, WritingFails, contents}
-use Rattle.cdb_show.specs.declared.fault.Fault.TheVariants.{Text, Make, Duplicate, Missing, Read, Walk, Output, Long, Open, Rename, NoMemory, Old, New, NoOldTables, NoNewTables, NoBaseTables}
+use Rattle.cdb_show.specs.declared.fault.Fault.TheVariants.{Walk, Output, Long, NoMemory}
 use Rattle.cdb_show.specs.Runs.WalkText.{LoadStops}
 use Rattle.cdb_show.specs.Views.Window.{feed_of, held_in, reader_of, window_feed}
 use Rattle.cdb_show.specs.declared.window.Window.{Window}

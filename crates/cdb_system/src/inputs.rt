@@ -1,5 +1,5 @@
 // The base and the inputs of a create, which are opened before anything is made.
-ghost use Rattle.std.specs.Prelude.{◌≡◌, ◌≢◌, ◌↔◌, [], ◌∷◌, map, option_map, string_bytes, codes, IfOk, IfErr, IsTrue};
+ghost use Rattle.std.specs.Prelude.{◌≡◌, ◌↔◌, [], ◌∷◌, map, option_map, string_bytes, IfOk, IfErr, IsTrue};
 ghost use Rattle.cdb_show.specs.Feed.{AreUnread};
 ghost use Rattle.cdb_show.specs.Views.Output.{OutputSays};
 ghost use Rattle.cdb_system.specs.Inputs.{IsStandard, OpensBase, MissesBase, OpensInput, OpensEach, OpensInputs, StopsOpening, MissesInput};

@@ -1,5 +1,4 @@
 // The state of the standard streams and of the inputs: why a call on one failed.
-ghost use Rattle.std.specs.Prelude.{◌≡◌};
 
 use std::cell::Cell;
 use std::fs::Metadata;

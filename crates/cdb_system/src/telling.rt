@@ -1,6 +1,6 @@
 // The lines on standard error.
 ghost use Rattle.std.specs.Prelude.{◌≡◌, ◌++◌, OnErr};
-ghost use Rattle.cdb_form.specs.Views.KnownBytes.{AppendsPrefix, Writes};
+ghost use Rattle.cdb_form.specs.Views.KnownBytes.{Writes};
 ghost use Rattle.cdb_show.specs.Command.{refused_in, usage_of};
 ghost use Rattle.cdb_show.specs.Message.{fault_line};
 ghost use Rattle.cdb_show.specs.Views.Output.{output_bytes, OutputFailed};

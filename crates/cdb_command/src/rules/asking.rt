@@ -1,5 +1,5 @@
 // The command that a line requests.
-ghost use Rattle.std.specs.Prelude.{◌≡◌, option_map, string_bytes};
+ghost use Rattle.std.specs.Prelude.{option_map, string_bytes};
 ghost use Rattle.cdb_command.specs.Line.{given_in};
 ghost use Rattle.cdb_command.specs.Asked.{Gives, asked_in};
 ghost use Rattle.cdb_command.specs.Rules.{one_name, key_query_in, lookups_in, query_in, create_in};

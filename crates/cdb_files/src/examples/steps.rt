@@ -1,5 +1,5 @@
 // A caller of cdb_make and cdb_read: a database is built in any store, whatever is refused.
-ghost use Rattle.std.specs.Prelude.{◌≡◌, ℕ, ◌≤◌, false, List, All, IfOk, IfErr};
+ghost use Rattle.std.specs.Prelude.{◌≡◌, ◌≤◌, false, List, All, IfOk, IfErr};
 ghost use Rattle.cdb_form.specs.Format.{file_size, head_size, KeyValue, IsRecord};
 ghost use Rattle.cdb_make.specs.Views.Maker.{IsFile, WhereHonest, is_lazy};
 ghost use Rattle.cdb_files.specs.Callers.{Builds, BuildingFails, Finds, IsUnbuilt, LeavesOf, HoldsWhole, left_by};

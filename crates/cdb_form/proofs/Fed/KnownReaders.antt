@@ -1,7 +1,7 @@
 -- Readers of which the standard library says which bytes are left: its words and those of feeds, each from the other.
-use Rattle.cdb_form.proofs.Words.{Consumes, FromTo, IsAtEnd, List, None, Option, Some, [], ap, length, reader_feed, refl, subst, sym, ℕ, ◌++◌, ◌<◌, ◌≡◌}
+use Rattle.cdb_form.proofs.Words.{Consumes, IsAtEnd, List, None, Option, Some, [], ap, length, reader_feed, refl, subst, sym, ℕ, ◌++◌, ◌<◌, ◌≡◌}
 use Rattle.std.specs.Io.KnownBytes.{Consumes as KnownConsumes, IsAtEnd as KnownEnd, ReadConsumes}
-use Rattle.std.specs.Prelude.{Result, Ok, Err, IfOk, IfSome}
+use Rattle.std.specs.Prelude.{Result, Ok, Err, IfOk}
 
 some_eq : {xs ys : List ℕ} → ◌≡◌ {A = Option (List ℕ)} (Some xs) (Some ys) → xs ≡ ys
 some_eq e = cc
@@ -29,14 +29,6 @@ pub known_consumes : (old new : Option (List ℕ)) (bytes : List ℕ) → Consum
 known_consumes None new bytes c = tt
 known_consumes (Some xs) None bytes c = elim (c.known tt) [ ]
 known_consumes (Some xs) (Some ys) bytes c = some_eq (c.back tt [] ys refl)
-
-pub known_reader : (old new : Option (List ℕ)) (P : List ℕ → List ℕ → Type 0) → FromTo (reader_feed old) (reader_feed new) P
-    → IfSome old (λ text. (rest : List ℕ) × (new ≡ Some rest) × P text rest)
-known_reader None new P f = tt
-known_reader (Some text) None P f = elim (f.known tt) [ ]
-known_reader (Some text) (Some rest) P f =
-    let t = f.back tt [] rest refl in
-    (rest, refl, subst (λ x. P x rest) (sym (some_eq t.1)) t.2)
 
 -- none are left
 pub known_end : (remaining : Option (List ℕ)) → IsAtEnd (reader_feed remaining) → KnownEnd remaining

@@ -1,15 +1,14 @@
 // The parser of a native text, of an amending one, and of a list: a machine that takes byte after
 // byte.
-ghost use Rattle.std.specs.Prelude.{◌≡◌, ◌≢◌, true, false, Some, ℕ, List, ◌+◌, ◌*◌, ◌^◌, ◌<◌, ◌≤◌, [], ◌∷◌, ◌++◌, codes, length, OnOk, IfOk, IfErr, MatchBool, MatchOption, SomeIff};
+ghost use Rattle.std.specs.Prelude.{◌≡◌, ◌≢◌, true, false, Some, ℕ, List, ◌+◌, ◌*◌, ◌^◌, ◌<◌, ◌≤◌, [], ◌∷◌, ◌++◌, codes, length, OnOk, IfOk, IfErr, MatchBool, SomeIff};
 ghost use Rattle.cdb_form.specs.Views.Feed.{Consumes};
 ghost use Rattle.cdb_form.specs.Format.{AreBytes};
 ghost use Rattle.cdb_form.specs.Text.Parse.{SpellsChange, SpellsRemoval, SpellsKey};
-ghost use Rattle.cdb_form.specs.Text.Native.{IsNumeral, Spells};
+ghost use Rattle.cdb_form.specs.Text.Native.{IsNumeral};
 ghost use Rattle.cdb_form.specs.Views.FormReader.{ReadsItem};
 ghost use Rattle.cdb_form.specs.Views.LongValue.{SpellsFront, value_ahead};
 ghost use Rattle.cdb_form.specs.Views.NativeParser.{FailsNumber, FailsByte, FailsField, FailsEntry, FailsItem, FailsIn, Leaves, ReadsBehind, mark_of};
 ghost use Rattle.cdb_form.specs.Views.Source.{budget};
-ghost use Rattle.cdb_form.specs.Views.Pairs.{change_in, key_value};
 ghost use Rattle.cdb_form.specs.declared.item.ItemKind.TheVariants.{Remove};
 ghost use Rattle.cdb_form.specs.declared.text.fault.TextFault.TheVariants.{NoMemory};
 

@@ -1,6 +1,6 @@
 // The map reader and the writers of maps and keys, on texts worked out by hand, and over readers
 // and writers that fail.
-ghost use Rattle.std.specs.Prelude.{◌≡◌, ◌≢◌, ◌≤◌, ◌^◌, ◌++◌, List, IfOk, IfErr};
+ghost use Rattle.std.specs.Prelude.{◌≡◌, ◌≢◌, ◌^◌, ◌++◌, List, IfOk, IfErr};
 ghost use Rattle.cdb_form.specs.Format.{KeyValue};
 ghost use Rattle.cdb_form.specs.Text.Map.{map_lines};
 ghost use Rattle.cdb_form.specs.Views.Feed.{FromTo};

@@ -1,5 +1,5 @@
 // The number of entries that each table has.
-ghost use Rattle.std.specs.Prelude.{◌≡◌, ℕ, ◌+◌, ◌*◌, ◌<◌, ◌≤◌, length, map, get_or, All, List};
+ghost use Rattle.std.specs.Prelude.{◌≡◌, ℕ, ◌+◌, ◌*◌, ◌<◌, ◌≤◌, length, map, get_or, All};
 ghost use Rattle.cdb_make.specs.Tables.{roll_tables};
 
 use crate::finish::gather::{GROUPS, TABLES};

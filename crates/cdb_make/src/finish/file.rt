@@ -1,5 +1,5 @@
 // The whole file of a roll's records, in their store.
-ghost use Rattle.std.specs.Prelude.{◌≡◌, ℕ, ◌+◌, ◌-◌, ◌*◌, ◌<◌, ◌≤◌, ◌⊎◌, length, map, sum_by, All, Err, OnOk, IfErr, IsErrOf, flat_map};
+ghost use Rattle.std.specs.Prelude.{◌≡◌, ◌+◌, ◌-◌, ◌*◌, ◌<◌, ◌≤◌, ◌⊎◌, length, map, All, Err, OnOk, IfErr, IsErrOf, flat_map};
 ghost use Rattle.cdb_store.specs.declared.store.StoreFault.TheVariants.{NoMemory as Refused};
 ghost use Rattle.cdb_store.specs.Images.{SameImages, KeepsPart, HasCause, ImagesHold as AreIn};
 ghost use Rattle.cdb_form.specs.Format.{head_size, pair_size};

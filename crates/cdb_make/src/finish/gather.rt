@@ -1,7 +1,7 @@
 // The entries of some tables, gathered in their order.
-ghost use Rattle.std.specs.Prelude.{◌≡◌, ℕ, ◌+◌, ◌*◌, ◌<◌, ◌≤◌, ◌++◌, ◌∷◌, [], length, get_or, IfOk, slice_set, All, map};
+ghost use Rattle.std.specs.Prelude.{◌≡◌, ℕ, ◌+◌, ◌<◌, ◌≤◌, ◌++◌, ◌∷◌, [], length, get_or, IfOk, slice_set, map};
 ghost use Rattle.std.specs.Simd.Lanes.{mask_l};
-ghost use Rattle.cdb_make.specs.Tables.{is_among, AreGathered, HaveRoomFor, all_gathered, gathered_in, rooms_of, roll_entries, tables_of, HaveRoom};
+ghost use Rattle.cdb_make.specs.Tables.{is_among, AreGathered, HaveRoomFor, all_gathered, rooms_of, roll_entries, tables_of, HaveRoom};
 
 use crate::finish::counts::most_of;
 use crate::finish::gathered::Gathered;

@@ -1,10 +1,10 @@
 // The tables, written to a store.
-ghost use Rattle.std.specs.Prelude.{◌≡◌, ℕ, ◌+◌, ◌*◌, ◌<◌, ◌≤◌, length, flat_map, map, max, sum_by, All, OnOk, IfOk, IsErrOf};
+ghost use Rattle.std.specs.Prelude.{◌≡◌, ◌+◌, ◌*◌, ◌<◌, ◌≤◌, length, flat_map, map, max, sum_by, All, OnOk, IfOk, IsErrOf};
 ghost use Rattle.cdb_store.specs.declared.store.StoreFault.TheVariants.{Device, NoMemory};
 ghost use Rattle.cdb_store.specs.Images.{AfterWrite, AfterTornWrite, HasCause};
 ghost use Rattle.cdb_form.specs.Format.{pair_size};
 ghost use Rattle.cdb_make.specs.Spans.{table_bytes, tables_end};
-ghost use Rattle.cdb_make.specs.Tables.{all_gathered, gathered_in, rooms_of, roll_tables, HaveRoom};
+ghost use Rattle.cdb_make.specs.Tables.{all_gathered, gathered_in, roll_tables, HaveRoom};
 
 use crate::finish::gather::{GROUPS, TABLES, gather};
 use crate::finish::gathered::Gathered;

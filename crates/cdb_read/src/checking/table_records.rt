@@ -1,5 +1,5 @@
 // The records of a walk whose keys have one table, as a check keeps them.
-ghost use Rattle.std.specs.Prelude.{◌≡◌, ◌<◌, ◌≤◌, ◌^◌, [], OnOk, IfSome, MatchOption, length, get_or, replicate, slice_set, true, false, List, option_map};
+ghost use Rattle.std.specs.Prelude.{◌≡◌, ◌<◌, ◌^◌, [], OnOk, IfSome, MatchOption, length, get_or, replicate, slice_set, true, false, List, option_map};
 
 use crate::checking::directory::Directory;
 use cdb_form::{Slot, table_number};

@@ -4,7 +4,7 @@ ghost use Rattle.cdb_form.specs.Format.{walk_of};
 ghost use Rattle.cdb_store.specs.Reads.{OnlyReads};
 ghost use Rattle.cdb_read.specs.Lookup.{bytes_of};
 ghost use Rattle.cdb_read.specs.Views.Reads.{StoreFails};
-ghost use Rattle.cdb_read.specs.Differing.{InBoth, DifferenceStops, AgreeUnmarked, AllMarked, AreInStep, LeftStops, OtherMarkFails, OtherNextStops, bytes_ahead, Grows, is_marked, GivesNext, GivesNoNext, NextStops, left_from, ReadBoth};
+ghost use Rattle.cdb_read.specs.Differing.{InBoth, DifferenceStops, AgreeUnmarked, AllMarked, AreInStep, LeftStops, OtherMarkFails, OtherNextStops, bytes_ahead, Grows, is_marked, GivesNext, GivesNoNext, left_from, ReadBoth};
 
 use crate::difference::guide::{Advance, Guide};
 use crate::difference::mark_hash::mark_hash;

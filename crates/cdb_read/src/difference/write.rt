@@ -1,5 +1,4 @@
 // The difference of two databases, as an amending text.
-ghost use Rattle.std.specs.Prelude.{◌≡◌};
 ghost use Rattle.cdb_read.specs.Differing.{SaysDifference};
 
 use crate::Reader;

@@ -1,5 +1,5 @@
 // The search of a key in a table.
-ghost use Rattle.std.specs.Prelude.{◌≡◌, ℕ, ◌<◌, ◌^◌, List, length, IfOk, IfErr};
+ghost use Rattle.std.specs.Prelude.{◌≡◌, ℕ, ◌<◌, ◌^◌, List, IfOk, IfErr};
 ghost use Rattle.cdb_form.specs.Format.{key_hash};
 ghost use Rattle.cdb_form.specs.Views.Pairs.{slot_pair};
 ghost use Rattle.cdb_store.specs.Reads.{OnlyReads};

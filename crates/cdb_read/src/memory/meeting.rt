@@ -1,5 +1,5 @@
 // The slots of a search and the records that they point to.
-ghost use Rattle.std.specs.Prelude.{◌≡◌, ◌<◌, ◌≤◌, length};
+ghost use Rattle.std.specs.Prelude.{◌≡◌, ◌<◌, length};
 ghost use Rattle.cdb_form.specs.Format.{key_hash};
 ghost use Rattle.cdb_form.specs.Views.Pairs.{slot_pair};
 ghost use Rattle.cdb_read.specs.Views.Search.{probe_slot, ProbedFrom, ProbedWithin, Meets, MetWithin, LooksAt, LookWithin, ProbeInside};

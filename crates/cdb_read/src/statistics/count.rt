@@ -1,5 +1,5 @@
 // Counts what a database holds.
-ghost use Rattle.std.specs.Prelude.{◌≡◌, ℕ, List, All, map, IfOk, IfErr};
+ghost use Rattle.std.specs.Prelude.{ℕ, List, All, map, IfOk, IfErr};
 ghost use Rattle.cdb_form.specs.Format.{head_at};
 ghost use Rattle.cdb_form.specs.Views.Pairs.{pointer_pair};
 ghost use Rattle.cdb_read.specs.Statistics.{distances_of};

@@ -1,5 +1,5 @@
 // The distances of used slots from the slots where their searches begin.
-ghost use Rattle.std.specs.Prelude.{ℕ, ◌≡◌, ◌++◌, [], ◌∷◌, List};
+ghost use Rattle.std.specs.Prelude.{ℕ, ◌++◌, [], ◌∷◌, List};
 
 /// The number of distances that are counted apart: 0 to 9, and 10 or more.
 pub(crate) const DISTANCES: usize = 11;

@@ -1,5 +1,4 @@
 // The difference of two databases, as an amending text.
-ghost use Rattle.std.specs.Prelude.{◌≡◌};
 ghost use Rattle.cdb_show.specs.Views.Output.{OutputSays};
 ghost use Rattle.cdb_show.specs.Runs.Difference.{TellsDifference, difference_state, difference_task};
 

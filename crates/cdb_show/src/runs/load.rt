@@ -1,5 +1,5 @@
 // A file taken into memory.
-ghost use Rattle.std.specs.Prelude.{◌≡◌, ◌+◌, ◌-◌, ◌^◌, ◌<◌, ◌≤◌, ℕ, List, Option, length, IfOk, IfErr, IfSome};
+ghost use Rattle.std.specs.Prelude.{◌≡◌, ◌+◌, ◌-◌, ◌<◌, ◌≤◌, ℕ, List, Option, length, IfOk, IfErr, IfSome};
 ghost use Rattle.cdb_store.specs.Contents.{contents};
 ghost use Rattle.cdb_form.specs.Views.Feed.{reader_feed};
 ghost use Rattle.cdb_form.specs.Views.Taking.{GivesAll, LosesAtMost};

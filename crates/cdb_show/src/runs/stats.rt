@@ -1,5 +1,4 @@
 // The statistics of a database.
-ghost use Rattle.std.specs.Prelude.{◌≡◌};
 ghost use Rattle.cdb_show.specs.Views.Output.{OutputSays};
 ghost use Rattle.cdb_show.specs.Runs.Stats.{TellsStats};
 
